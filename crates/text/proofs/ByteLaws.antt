@@ -1,0 +1,121 @@
+-- What the tests on bytes say, by the branches that the code takes.
+use Prim.Native.Nat.{ℕ, zero, suc, _+_, _-_, _<_, _≤_}
+use Prim.Native.Char.{code}
+use mathlib.Core.Path.{_≡_, refl, sym, _∙_, ap}
+use mathlib.Core.List.{List}
+use mathlib.Core.Bool.{Bool, true, false, _&&_, _||_}
+use native.Mathlib.Omega.{arith}
+use native.Mathlib.Numerals.{add-one}
+use borrow.Author.Tests.{eq-eqb, ne-eqb, le-ltb, lt-ltb, le-leb, lt-leb}
+use borrow.Author.Needs.{needs}
+use lib.ListN.{length, getD, List·getD-eq-default}
+use lib.Dec.{eqb, ltb, leb}
+use Rattle.text.specs.Bytes.{byte, isBlank, isAllowed, isLetter, isDigit, startsName, inName, startsNumber, pairAt, sameFor, samePart}
+
+-- what a call ensures of its flag, and what the flag is
+pub via : {A : Type 0} {b x t : A} → b ≡ x → b ≡ t → x ≡ t
+via p q = sym p ∙ q
+
+module _ (b : ℕ) where
+  pub blank-is : (eqb b 32 || eqb b 9 || eqb b 13 || eqb b 10) ≡ isBlank b
+  unfolding isBlank
+  blank-is = refl
+
+  pub allowed-is : (leb 33 b && leb b 126) ≡ isAllowed b
+  unfolding isAllowed
+  allowed-is = refl
+
+  pub letter-is : (leb 65 b && leb b 90 || leb 97 b && leb b 122) ≡ isLetter b
+  unfolding isLetter
+  letter-is = refl
+
+  pub digit-is : (leb 48 b && leb b 57) ≡ isDigit b
+  unfolding isDigit
+  digit-is = refl
+
+  -- l and d are what `is_letter`, `starts_name` and `is_digit` gave
+  pub starts-name-is : (l : Bool) → l ≡ isLetter b → (l || eqb b 95) ≡ startsName b
+  unfolding startsName
+  starts-name-is l p = rw p
+
+  pub in-name-is : (l d : Bool) → l ≡ startsName b → d ≡ isDigit b → (l || d || eqb b 46 || eqb b 91 || eqb b 93) ≡ inName b
+  unfolding inName
+  in-name-is l d p q = rw (p, q)
+
+  pub starts-number-is : (d : Bool) → d ≡ isDigit b → (d || eqb b 43 || eqb b 45 || eqb b 46) ≡ startsNumber b
+  unfolding startsNumber
+  starts-number-is d q = rw q
+
+pub ruleset byte-classes = (blank-is, allowed-is, letter-is, digit-is, starts-name-is, in-name-is, starts-number-is, needs)
+
+pub byte-past : (s : List ℕ) (k : ℕ) → length s ≤ k → 0 ≡ byte s k
+byte-past s k h = sym (List·getD-eq-default s 0 h)
+
+pub ruleset single = (byte-past, needs)
+
+module _ (s : List ℕ) (k a b : ℕ) where
+  pub pair-short : length s ≤ k + 1 → false ≡ pairAt s k a b
+  unfolding pairAt
+  pair-short h = rw (le-ltb (k + 1) (length s) h)
+
+  pub pair-past : length s ≤ k → false ≡ pairAt s k a b
+  pair-past h = pair-short (omega arith)
+
+  pub pair-inside : k + 1 < length s → (eqb (byte s k) a && eqb (byte s (k + 1)) b) ≡ pairAt s k a b
+  unfolding pairAt
+  pair-inside h = rw (lt-ltb (k + 1) (length s) h)
+
+pub ruleset pairs = (pair-past, pair-short, pair-inside, needs)
+
+-- the loop of `same_part`: the n bytes are the same exactly if those from i on are
+pub record SameFrom (s : List ℕ) (k : ℕ) (w : List ℕ) (j n i : ℕ) : Type 0 where
+  pub within : i ≤ n
+  pub same : sameFor (n - i) s (k + i) w (j + i) ≡ sameFor n s k w j
+
+module _ (s : List ℕ) (k : ℕ) (w : List ℕ) (j n : ℕ) where
+  pub same-start : SameFrom s k w j n 0
+  same-start = record { within = omega arith; same = let p : n - 0 ≡ n = omega arith in let q : k + 0 ≡ k = omega arith in let r : j + 0 ≡ j = omega arith in rw (p, q, r) }
+
+  -- one more byte
+  one-more : (m p q : ℕ) → sameFor (suc m) s p w q ≡ (eqb (byte s p) (byte w q) && sameFor m s (suc p) w (suc q))
+  unfolding sameFor
+  one-more m p q = refl
+
+  module _ (i : ℕ) (h : SameFrom s k w j n i) (lt : i < n) where
+    step : sameFor n s k w j ≡ (eqb (byte s (k + i)) (byte w (j + i)) && sameFor (n - (i + 1)) s (k + (i + 1)) w (j + (i + 1)))
+    step =
+        let m : n - i ≡ suc (n - (i + 1)) = omega arith in
+        let p : suc (k + i) ≡ k + (i + 1) = omega arith in
+        let q : suc (j + i) ≡ j + (i + 1) = omega arith in
+        sym (h .same) ∙ rw (m, one-more (n - (i + 1)) (k + i) (j + i), p, q)
+
+    pub same-on : (a b : ℕ) → a ≡ byte s (k + i) → b ≡ byte w (j + i) → a ≡ b → SameFrom s k w j n (i + 1)
+    same-on a b p q e = record { within = omega arith; same = sym (step ∙ rw (eq-eqb (byte s (k + i)) (byte w (j + i)) (sym p ∙ e ∙ q))) }
+
+    pub same-differs : (a b : ℕ) → a ≡ byte s (k + i) → b ≡ byte w (j + i) → (a ≡ b → ⊥) → false ≡ sameFor n s k w j
+    same-differs a b p q e = sym (step ∙ rw (ne-eqb (byte s (k + i)) (byte w (j + i)) (λ x. e (p ∙ x ∙ sym q))))
+
+  pub same-all : (i : ℕ) → SameFrom s k w j n i → n ≤ i → true ≡ sameFor n s k w j
+  unfolding sameFor
+  same-all i h le = let z : n - i ≡ 0 = omega arith in rw z at (h .same)
+
+module _ (s : List ℕ) (k e : ℕ) (w : List ℕ) (j f : ℕ) where
+  pub part-back : e < k → false ≡ samePart s k e w j f
+  unfolding samePart
+  part-back h = rw (lt-leb k e h)
+
+  pub part-back-too : k ≤ e → f < j → false ≡ samePart s k e w j f
+  unfolding samePart
+  part-back-too h g = rw (le-leb k e h, lt-leb j f g)
+
+  pub part-length : k ≤ e → j ≤ f → (e - k ≡ f - j → ⊥) → false ≡ samePart s k e w j f
+  unfolding samePart
+  part-length h g d = rw (le-leb k e h, le-leb j f g, ne-eqb (e - k) (f - j) d)
+
+  pub part-is : (r : Bool) → k ≤ e → j ≤ f → e - k ≡ f - j → r ≡ sameFor (e - k) s k w j → r ≡ samePart s k e w j f
+  unfolding samePart
+  part-is r h g d x = rw (le-leb k e h, le-leb j f g, eq-eqb (e - k) (f - j) d, x)
+
+pub ruleset sames = (same-start, same-on, same-differs, same-all, needs)
+
+pub ruleset parts = (part-back, part-back-too, part-length, part-is, needs)

@@ -6,7 +6,7 @@ use mathlib.Core.Bool.{Bool, true, false}
 use borrow.Author.Needs.{needs}
 use borrow.Author.Tests.{eq-eqb, ne-eqb, le-leb, lt-leb}
 use lib.ListN.{length}
-use Rattle.text.specs.Answer.{Answer, given, refused, with, reached, told, Piece, piece, finish, item, begin, end}
+use Rattle.text.specs.Answer.{Answer, given, refused, with, reached, toldItem, Piece, piece, finish, run, begin, string, end}
 use Rattle.text.specs.Bytes.{byte}
 use Rattle.text.specs.Blank.{blankAt}
 use Rattle.text.specs.Token.{stringAt, runEnd, isBegin, isEnd}
@@ -14,7 +14,7 @@ use Rattle.text.specs.Item.{itemOf, runItem, itemAt, nextItem}
 use Rattle.text.specs.declared.cursor.Cursor.{Cursor}
 use Rattle.text.specs.declared.cursor.Reach.{Reach}
 use Rattle.text.specs.declared.cursor.Reach.the-variants.{To, Refused}
-use Rattle.text.specs.declared.cursor.Token.{Token}
+use Rattle.text.specs.declared.cursor.Item.{Item}
 use Rattle.text.proofs.ByteLaws.{via}
 use Rattle.text.proofs.TokenLaws.{with-to, with-refused}
 
@@ -33,7 +33,7 @@ module _ (s : List ℕ) (k : ℕ) (r : Reach) (p : reached r ≡ runEnd s k) whe
     unfolding runItem
     run-end b e = sym (with-to (runEnd s k) (itemOf s k) r p c y ∙ rw (b, e))
 
-    pub run-other : isBegin s k (c .at) ≡ false → isEnd s k (c .at) ≡ false → given (piece item k (c .at)) ≡ runItem s k
+    pub run-other : isBegin s k (c .at) ≡ false → isEnd s k (c .at) ≡ false → given (piece run k (c .at)) ≡ runItem s k
     unfolding runItem
     run-other b e = sym (with-to (runEnd s k) (itemOf s k) r p c y ∙ rw (b, e))
 
@@ -44,17 +44,17 @@ module _ (s : List ℕ) (k : ℕ) where
   unfolding itemAt
   item-finish h = rw (le-leb (length s) k h)
 
-  pub item-string : (r : Token) → k < length s → byte s k ≡ 34 → told r ≡ stringAt s k → told r ≡ itemAt s k
+  pub item-string : (r : Item) → k < length s → byte s k ≡ 34 → toldItem r ≡ stringAt s k → toldItem r ≡ itemAt s k
   unfolding itemAt
   item-string r h q p = rw (lt-leb (length s) k h, eq-eqb (byte s k) 34 q, p)
 
-  pub item-run : (r : Token) → k < length s → (byte s k ≡ 34 → ⊥) → told r ≡ runItem s k → told r ≡ itemAt s k
+  pub item-run : (r : Item) → k < length s → (byte s k ≡ 34 → ⊥) → toldItem r ≡ runItem s k → toldItem r ≡ itemAt s k
   unfolding itemAt
   item-run r h q p = rw (lt-leb (length s) k h, ne-eqb (byte s k) 34 q, p)
 
   -- b is what `blanks` gave
   module _ (b : Reach) (p : reached b ≡ blankAt s k) where
-    pub next-item : (c : Cursor) (r : Token) → b ≡ To c → told r ≡ itemAt s (c .at) → told r ≡ nextItem s k
+    pub next-item : (c : Cursor) (r : Item) → b ≡ To c → toldItem r ≡ itemAt s (c .at) → toldItem r ≡ nextItem s k
     unfolding nextItem
     next-item c r y x = x ∙ sym (with-to (blankAt s k) (itemAt s) b p c y)
 

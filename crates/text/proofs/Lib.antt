@@ -4,3 +4,6 @@ pub mod Within
 pub mod BlankLaws
 pub mod TokenLaws
 pub mod ItemLaws
+pub mod Pieces
+pub mod SkipWithin
+pub mod SkipLaws

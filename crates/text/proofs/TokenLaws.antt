@@ -207,4 +207,3 @@ module _ (s : List ℕ) (k : ℕ) where
 pub ruleset tokens = (token-finish, token-string, token-name, token-number, token-mark, via, needs)
 
 pub ruleset nexts = (next-token, next-refused, needs)
-

@@ -37,6 +37,10 @@ pub pair-inside-text : (s : List ℕ) (k a b : ℕ) → pairAt s k a b ≡ true 
 unfolding pairAt
 pair-inside-text s k a b h = ltb-true (k + 1) (length s) (and-left (ltb (k + 1) (length s)) _ (and-left _ _ h))
 
+-- a place from k on, inside a text of n bytes
+abbrev pub From : ℕ → ℕ → ℕ → Type 0
+From n k e = (k ≤ e) × (e ≤ n)
+
 -- a step from k goes forward inside the text, or answers what R says of k
 abbrev pub Goes : {A : Type 0} → ℕ → (ℕ → A → Type 0) → ℕ → Step A → Type 0
 Goes n R k (on e) = (k < e) × (e ≤ n)
@@ -49,9 +53,12 @@ forward n R step last mono goes final k h = over-has n step last (λ j. (k ≤ j
     (λ j a lt p q. mono k j a (p .0) (subst (Goes n R j) q (goes j lt)))
     (λ j ge p. mono k j (last j) (p .0) (final j (p .1) ge)) k (omega arith, h)
 
--- a place from k on, inside a text of n bytes
-abbrev pub From : ℕ → ℕ → ℕ → Type 0
-From n k e = (k ≤ e) × (e ≤ n)
+-- the same for an answer that keeps to the start: Q holds of each answer of a walk from k
+pub from-start : {A : Type 0} (n : ℕ) (Q : A → Type 0) (step : ℕ → Step A) (last : ℕ → A) (k : ℕ) → ((j : ℕ) → From n k j → j < n → Goes n (λ i. Q) j (step j)) → ((j : ℕ) → From n k j → n ≤ j → Q (last j)) → k ≤ n → Q (over n step last k)
+from-start n Q step last k goes final h = over-has n step last (From n k) Q
+    (λ j e lt p q. let g : Goes n (λ i. Q) j (on e) = subst (Goes n (λ i. Q) j) q (goes j p lt) in (g .0, (omega (arith, g .0, p .0), g .1)))
+    (λ j a lt p q. subst (Goes n (λ i. Q) j) q (goes j p lt))
+    (λ j ge p. final j p ge) k (omega arith, h)
 
 -- what is read from k on ends past it, inside the text, or is refused there
 abbrev pub Past : ℕ → ℕ → Answer ℕ → Type 0
@@ -68,10 +75,10 @@ pub comment-within : (s : List ℕ) (k : ℕ) → pairAt s k 47 42 ≡ true → 
 unfolding commentEnd
 comment-within s k h =
     let l : k + 1 < length s = pair-inside-text s k 47 42 h in
-    forward (length s) (λ j a. k < j → Past (length s) k a) (closeStep s) (λ j. refused 1 k) (λ i j a le f lt. f (omega arith))
-    (λ j lt. by-test (Goes (length s) (λ i a. k < i → Past (length s) k a) j) (pairAt s j 42 47)
-        (λ t g. (omega arith, omega (arith, pair-inside-text s j 42 47 t))) (λ t. (omega arith, omega arith)))
-    (λ j le ge g. (omega arith, omega arith)) (k + 2) (omega arith) (omega arith)
+    from-start (length s) (Past (length s) k) (closeStep s) (λ j. refused 1 k) (k + 2)
+    (λ j f lt. by-test (Goes (length s) (λ i. Past (length s) k) j) (pairAt s j 42 47)
+    (λ t. (omega (arith, f .0), omega (arith, pair-inside-text s j 42 47 t))) (λ t. (omega arith, omega arith)))
+    (λ j f ge. (omega arith, omega arith)) (omega arith)
 
 -- no blank and no comment stands at a place
 pub record NoGap (s : List ℕ) (k : ℕ) : Type 0 where
@@ -96,9 +103,9 @@ pub blank-goes : (s : List ℕ) (k : ℕ) → k < length s → Goes (length s) (
 blank-goes s j lt =
     by-test (Goes (length s) (Blanks s) j) (isBlank (byte s j)) (λ t. (omega arith, omega arith)) λ b.
     by-test (Goes (length s) (Blanks s) j) (pairAt s j 47 47) (λ t.
-        let l : j + 1 < length s = pair-inside-text s j 47 47 t in
-        let w : From (length s) (j + 2) (lineEnd s (j + 2)) = line-within s (j + 2) (omega arith) in
-        (omega (arith, w .0), w .1)) λ l.
+    let l : j + 1 < length s = pair-inside-text s j 47 47 t in
+    let w : From (length s) (j + 2) (lineEnd s (j + 2)) = line-within s (j + 2) (omega arith) in
+    (omega (arith, w .0), w .1)) λ l.
     by-test (Goes (length s) (Blanks s) j) (pairAt s j 47 42) (λ t. comment-goes s j (commentEnd s j) (comment-within s j t)) λ c.
     ((omega arith, omega arith), λ g. record { blank = b; line = l; comment = c })
 

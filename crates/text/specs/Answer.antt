@@ -10,6 +10,8 @@ use Rattle.text.specs.declared.cursor.Gap.{Gap}
 use Rattle.text.specs.declared.cursor.Gap.the-variants as gap
 use Rattle.text.specs.declared.cursor.Token.{Token}
 use Rattle.text.specs.declared.cursor.Token.the-variants as token
+use Rattle.text.specs.declared.cursor.Item.{Item}
+use Rattle.text.specs.declared.cursor.Item.the-variants as item
 use Rattle.text.specs.declared.cursor.Tag.{Tag}
 use Rattle.text.specs.declared.cursor.Tag.the-variants as tag
 use Rattle.text.specs.declared.cursor.Passed.{Passed}
@@ -30,15 +32,15 @@ abbrev pub onTo : {B : Type 0} → Answer ℕ → Step (Answer B)
 onTo (given e) = on e
 onTo (refused n p) = done (refused n p)
 
--- the kinds of a piece of text: a name, a string, a run that starts as a number does, an item of a skipped block, `/begin`, `/end`
+-- the kinds of a piece of text: a name, a string, a run that starts as a number does, a run in a skipped block, `/begin`, `/end`
 pub data Kind : Type 0 where
-  name string number item begin end : Kind
+  name string number run begin end : Kind
 
 abbrev pub kindNumber : Kind → ℕ
 kindNumber name = 0
 kindNumber string = 1
 kindNumber number = 2
-kindNumber item = 3
+kindNumber run = 3
 kindNumber begin = 4
 kindNumber end = 5
 
@@ -67,11 +69,19 @@ abbrev pub told : Token → Answer Piece
 told (token.Name a c) = given (piece name a (c .at))
 told (token.Text a c) = given (piece string a (c .at))
 told (token.Number a c) = given (piece number a (c .at))
-told (token.Item a c) = given (piece item a (c .at))
 told (token.Begin a c) = given (piece begin a (c .at))
 told (token.End a c) = given (piece end a (c .at))
 told (token.Finish p) = given (finish p)
 told (token.Refused n p) = refused n p
+
+-- what `Item` answers: a piece, or a refusal
+abbrev pub toldItem : Item → Answer Piece
+toldItem (item.Run a c) = given (piece run a (c .at))
+toldItem (item.Text a c) = given (piece string a (c .at))
+toldItem (item.Begin a c) = given (piece begin a (c .at))
+toldItem (item.End a c) = given (piece end a (c .at))
+toldItem (item.Finish p) = given (finish p)
+toldItem (item.Refused n p) = refused n p
 
 -- what `Tag` answers: the places of a tag's first byte and past it, or a refusal
 abbrev pub tagged : Tag → Answer (ℕ × ℕ)
@@ -79,12 +89,12 @@ tagged (tag.At a c) = given (a, c .at)
 tagged (tag.Refused n p) = refused n p
 
 -- past an item of a skipped block, or past the `/end` that closes the block
-pub data Item : Type 0 where
-  past : (next : ℕ) → Item
-  closes : (next : ℕ) → Item
+pub data Pass : Type 0 where
+  past : (next : ℕ) → Pass
+  closes : (next : ℕ) → Pass
 
 -- what `Passed` answers: an item passed, the block's `/end`, or a refusal
-abbrev pub skipped : Passed → Answer Item
+abbrev pub skipped : Passed → Answer Pass
 skipped (passed.Past c) = given (past (c .at))
 skipped (passed.Closes c) = given (closes (c .at))
 skipped (passed.Refused n p) = refused n p

@@ -4,7 +4,7 @@ use mathlib.Core.List.{List}
 use mathlib.Core.Bool.{Bool, true, false, cond}
 use lib.ListN.{length}
 use lib.Dec.{leb, eqb}
-use Rattle.text.specs.Answer.{Answer, given, refused, with, Piece, piece, finish, item, begin, end}
+use Rattle.text.specs.Answer.{Answer, given, refused, with, Piece, piece, finish, run, begin, end}
 use Rattle.text.specs.Bytes.{byte}
 use Rattle.text.specs.Blank.{blankAt}
 use Rattle.text.specs.Token.{stringAt, runEnd, isBegin, isEnd}
@@ -14,7 +14,7 @@ abbrev pub itemOf : List ℕ → ℕ → ℕ → Answer Piece
 itemOf s k e =
     cond (isBegin s k e) (given (piece begin k e))
     (cond (isEnd s k e) (given (piece end k e))
-    (given (piece item k e)))
+    (given (piece run k e)))
 
 unfoldable pub runItem : List ℕ → ℕ → Answer Piece
 runItem s k = with (runEnd s k) (itemOf s k)

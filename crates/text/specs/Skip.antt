@@ -4,13 +4,13 @@ use mathlib.Core.List.{List}
 use mathlib.Core.Bool.{Bool, true, false, cond, _&&_}
 use lib.ListN.{length}
 use Rattle.text.specs.Walk.{Step, on, done, over}
-use Rattle.text.specs.Answer.{Answer, given, refused, with, Piece, piece, finish, is, item, begin, end, Item, past, closes}
+use Rattle.text.specs.Answer.{Answer, given, refused, with, Piece, piece, finish, is, run, begin, end, Pass, past, closes}
 use Rattle.text.specs.Bytes.{samePart, spells}
 use Rattle.text.specs.Item.{nextItem}
 
 -- the tag after `/begin` or `/end` is a run; any other piece in its place is refusal n at that piece, and the text's end is 3
 abbrev pub asTag : ℕ → Piece → Answer (ℕ × ℕ)
-asTag n (piece kind a e) = cond (is kind item) (given (a, e)) (refused n a)
+asTag n (piece kind a e) = cond (is kind run) (given (a, e)) (refused n a)
 asTag n (finish p) = refused 3 p
 
 unfoldable pub tagAt : ℕ → List ℕ → ℕ → Answer (ℕ × ℕ)
@@ -24,7 +24,7 @@ unfoldable pub closing : List ℕ → ℕ → ℕ → ℕ → Answer ℕ
 closing s f t k = with (tagAt 3 s k) (sameTag s f t)
 
 -- a walk over items: on past an item; at the `/end` that closes, done with what `close` says of the place past it
-abbrev pub afterItem : (ℕ → Answer ℕ) → Answer Item → Step (Answer ℕ)
+abbrev pub afterItem : (ℕ → Answer ℕ) → Answer Pass → Step (Answer ℕ)
 afterItem close (given (past e)) = on e
 afterItem close (given (closes e)) = done (close e)
 afterItem close (refused n p) = done (refused n p)
@@ -34,17 +34,17 @@ unfoldable pub isA2ml : List ℕ → ℕ → ℕ → Bool
 isA2ml s k e = spells s k e "A2ML"
 
 -- "A2ML ends at its first "/end A2ML" outside strings and comments": an item `/end`, past which e stands, closes if the next item is `A2ML`
-abbrev pub afterEnd : List ℕ → ℕ → Answer Piece → Answer Item
-afterEnd s e (given (piece kind a f)) = cond (is kind item && isA2ml s a f) (given (closes f)) (given (past e))
+abbrev pub afterEnd : List ℕ → ℕ → Answer Piece → Answer Pass
+afterEnd s e (given (piece kind a f)) = cond (is kind run && isA2ml s a f) (given (closes f)) (given (past e))
 afterEnd s e (given (finish p)) = given (past e)
 afterEnd s e (refused n p) = given (past e)
 
 -- any other item of it is passed
-abbrev pub a2mlPiece : List ℕ → Piece → Answer Item
+abbrev pub a2mlPiece : List ℕ → Piece → Answer Pass
 a2mlPiece s (piece kind a e) = cond (is kind end) (afterEnd s e (nextItem s e)) (given (past e))
 a2mlPiece s (finish p) = refused 3 p
 
-unfoldable pub a2mlItem : List ℕ → ℕ → Answer Item
+unfoldable pub a2mlItem : List ℕ → ℕ → Answer Pass
 a2mlItem s k = with (nextItem s k) (a2mlPiece s)
 
 abbrev pub a2mlStep : List ℕ → ℕ → Step (Answer ℕ)
@@ -54,14 +54,14 @@ unfoldable pub a2mlEnd : List ℕ → ℕ → Answer ℕ
 a2mlEnd s = over (length s) (a2mlStep s) (λ k. refused 3 (length s))
 
 -- any other block: an item is passed, `/begin` starts a block that `inner` passes, `/end` closes, the text's end is 3
-abbrev pub blockPiece : (ℕ → ℕ → Answer ℕ) → Piece → Answer Item
+abbrev pub blockPiece : (ℕ → ℕ → Answer ℕ) → Piece → Answer Pass
 blockPiece inner (piece kind a e) =
     cond (is kind begin) (with (inner a e) (λ k. given (past k)))
     (cond (is kind end) (given (closes e))
     (given (past e)))
 blockPiece inner (finish p) = refused 3 p
 
-unfoldable pub blockItem : (ℕ → ℕ → Answer ℕ) → List ℕ → ℕ → Answer Item
+unfoldable pub blockItem : (ℕ → ℕ → Answer ℕ) → List ℕ → ℕ → Answer Pass
 blockItem inner s k = with (nextItem s k) (blockPiece inner)
 
 abbrev pub blockStep : (ℕ → ℕ → Answer ℕ) → List ℕ → ℕ → ℕ → ℕ → Step (Answer ℕ)
@@ -83,5 +83,5 @@ unfoldable pub skipBlock : ℕ → List ℕ → ℕ → ℕ → Answer ℕ
 skipBlock d s f t = blockEnd (blockIn d s) s f t
 
 -- the next item of a block, with d levels left below the block
-unfoldable pub skipItem : ℕ → List ℕ → ℕ → Answer Item
+unfoldable pub skipItem : ℕ → List ℕ → ℕ → Answer Pass
 skipItem d s k = blockItem (blockIn d s) s k

@@ -16,7 +16,16 @@ pub enum Token {
     Name { start: usize, next: Cursor },
     Text { start: usize, next: Cursor },
     Number { start: usize, next: Cursor },
-    Item { start: usize, next: Cursor },
+    Begin { start: usize, next: Cursor },
+    End { start: usize, next: Cursor },
+    Finish { place: usize },
+    Refused { no: u8, place: usize },
+}
+
+// An item of a skipped block, from its first byte to the cursor past it; the text's end; or a refusal.
+pub enum Item {
+    Run { start: usize, next: Cursor },
+    Text { start: usize, next: Cursor },
     Begin { start: usize, next: Cursor },
     End { start: usize, next: Cursor },
     Finish { place: usize },

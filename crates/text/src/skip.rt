@@ -1,10 +1,10 @@
 // Skipping a block whole: blocks hold items and items hold blocks.
 use crate::bytes::same_part;
 use crate::cursor::Cursor;
+use crate::cursor::Item;
 use crate::cursor::Passed;
 use crate::cursor::Reach;
 use crate::cursor::Tag;
-use crate::cursor::Token;
 ghost use mathlib.Core.Path.{_≡_};
 ghost use Rattle.text.specs.Answer.{reached, tagged, skipped};
 ghost use Rattle.text.specs.Item.{nextItem};
@@ -23,14 +23,12 @@ impl Cursor {
         ensures { λ r. ⌜ tagged r ≡ tagAt «no» (now (s .entry)) (self .at) ⌝ }
     {
         match self.item(s) {
-            Token::Item { start, next } => Tag::At { start, next },
-            Token::Name { start, next: _ } => Tag::Refused { no, place: start },
-            Token::Text { start, next: _ } => Tag::Refused { no, place: start },
-            Token::Number { start, next: _ } => Tag::Refused { no, place: start },
-            Token::Begin { start, next: _ } => Tag::Refused { no, place: start },
-            Token::End { start, next: _ } => Tag::Refused { no, place: start },
-            Token::Finish { place } => Tag::Refused { no: 3, place },
-            Token::Refused { no: why, place } => Tag::Refused { no: why, place },
+            Item::Run { start, next } => Tag::At { start, next },
+            Item::Text { start, next: _ } => Tag::Refused { no, place: start },
+            Item::Begin { start, next: _ } => Tag::Refused { no, place: start },
+            Item::End { start, next: _ } => Tag::Refused { no, place: start },
+            Item::Finish { place } => Tag::Refused { no: 3, place },
+            Item::Refused { no: why, place } => Tag::Refused { no: why, place },
         }
     }
 
@@ -57,19 +55,17 @@ impl Cursor {
         ensures { λ r. ⌜ skipped r ≡ afterEnd (now (s .entry)) (self .at) (nextItem (now (s .entry)) (self .at)) ⌝ }
     {
         match self.item(s) {
-            Token::Item { start, next } => {
+            Item::Run { start, next } => {
                 if is_a2ml(s, start, next.at) {
                     return Passed::Closes(next);
                 }
                 Passed::Past(self)
             }
-            Token::Name { start: _, next: _ } => Passed::Past(self),
-            Token::Text { start: _, next: _ } => Passed::Past(self),
-            Token::Number { start: _, next: _ } => Passed::Past(self),
-            Token::Begin { start: _, next: _ } => Passed::Past(self),
-            Token::End { start: _, next: _ } => Passed::Past(self),
-            Token::Finish { place: _ } => Passed::Past(self),
-            Token::Refused { no: _, place: _ } => Passed::Past(self),
+            Item::Text { start: _, next: _ } => Passed::Past(self),
+            Item::Begin { start: _, next: _ } => Passed::Past(self),
+            Item::End { start: _, next: _ } => Passed::Past(self),
+            Item::Finish { place: _ } => Passed::Past(self),
+            Item::Refused { no: _, place: _ } => Passed::Past(self),
         }
     }
 
@@ -78,14 +74,12 @@ impl Cursor {
         ensures { λ r. ⌜ skipped r ≡ a2mlItem (now (s .entry)) (self .at) ⌝ }
     {
         match self.item(s) {
-            Token::End { start: _, next } => next.after_end(s),
-            Token::Name { start: _, next } => Passed::Past(next),
-            Token::Text { start: _, next } => Passed::Past(next),
-            Token::Number { start: _, next } => Passed::Past(next),
-            Token::Item { start: _, next } => Passed::Past(next),
-            Token::Begin { start: _, next } => Passed::Past(next),
-            Token::Finish { place } => Passed::Refused { no: 3, place },
-            Token::Refused { no, place } => Passed::Refused { no, place },
+            Item::End { start: _, next } => next.after_end(s),
+            Item::Text { start: _, next } => Passed::Past(next),
+            Item::Run { start: _, next } => Passed::Past(next),
+            Item::Begin { start: _, next } => Passed::Past(next),
+            Item::Finish { place } => Passed::Refused { no: 3, place },
+            Item::Refused { no, place } => Passed::Refused { no, place },
         }
     }
 
@@ -119,7 +113,7 @@ impl Cursor {
         ensures { λ r. ⌜ skipped r ≡ skipItem depth (now (s .entry)) (self .at) ⌝ }
     {
         match self.item(s) {
-            Token::Begin { start, next } => {
+            Item::Begin { start, next } => {
                 if depth == 0 {
                     return Passed::Refused {
                         no: 3,
@@ -127,7 +121,10 @@ impl Cursor {
                     };
                 }
                 match next.tag(s, 5) {
-                    Tag::At { start: from, next: to } => {
+                    Tag::At {
+                        start: from,
+                        next: to,
+                    } => {
                         match to.skip_block(s, from, depth - 1) {
                             Reach::To(past) => Passed::Past(past),
                             Reach::Refused { no, place } => Passed::Refused { no, place },
@@ -136,13 +133,11 @@ impl Cursor {
                     Tag::Refused { no, place } => Passed::Refused { no, place },
                 }
             }
-            Token::End { start: _, next } => Passed::Closes(next),
-            Token::Name { start: _, next } => Passed::Past(next),
-            Token::Text { start: _, next } => Passed::Past(next),
-            Token::Number { start: _, next } => Passed::Past(next),
-            Token::Item { start: _, next } => Passed::Past(next),
-            Token::Finish { place } => Passed::Refused { no: 3, place },
-            Token::Refused { no, place } => Passed::Refused { no, place },
+            Item::End { start: _, next } => Passed::Closes(next),
+            Item::Text { start: _, next } => Passed::Past(next),
+            Item::Run { start: _, next } => Passed::Past(next),
+            Item::Finish { place } => Passed::Refused { no: 3, place },
+            Item::Refused { no, place } => Passed::Refused { no, place },
         }
     }
 

@@ -6,4 +6,10 @@ use Rattle.text.proofs.ItemLaws.{items}
 pub item-here-spec : {M : Type 1} → statement M
 item-here-spec =
     tie.close
-    (tie.spec (λ c. search items) (λ c. search items) (λ c κs. search items) (λ c. search items) (λ c κs. search items) (λ c. search items))
+    (tie.spec
+    (λ c. search items)
+    (λ c. search items)
+    (λ c κs. search items)
+    (λ c. search items)
+    (λ c κs. search items)
+    (λ c. search items))

@@ -1,0 +1,167 @@
+-- THE LAWS of the conversions, about the definitions that the contracts name.
+use mathlib.Core.Path.{_≡_, refl, sym, ap, ap₂, subst, _∙_}
+use mathlib.Core.Bool.{Bool, true, false}
+use mathlib.Core.List.{List}
+use Prim.Native.Nat.{ℕ, zero, suc, _+_, _*_, _-_, _%_, _^_, _≤_, _<_}
+use native.Mathlib.Nat.{mul-assoc, eq-of-mul-eq-mul-right, mul-mod-left, pow-suc, pow-le-pow-right}
+use native.Mathlib.Omega.{arith}
+use borrow.Author.Tests.{lt-ltb, leb-true, leb-false, eq-eqb}
+use lib.Dec.{leb, lit<}
+use lib.IntN.{ℤ, pos, negsuc, negℤ, natAbs, _+ℤ_, _-ℤ_, _*ℤ_, negℤ-negℤ, negℤ-+ℤ}
+use lib.Pow.{pow-add}
+use Rattle.number.specs.Answer.{Answer, given, refused}
+use Rattle.number.specs.Decimal.{Scaled}
+use Rattle.cell.specs.declared.kind.Shape.{Shape}
+use Rattle.cell.specs.Raw.{fitsRaw}
+use Rattle.cell.proofs.Types.{clash}
+use Rattle.convert.specs.declared.method.Coefficients.{Coefficients}
+use Rattle.convert.specs.Whole.{eqZ, allSmall}
+use Rattle.convert.specs.Limit.{withinLimits}
+use Rattle.convert.specs.Method.{sameProducts}
+use Rattle.convert.specs.Fraction.{number, turned, fraction, fractionOf}
+use Rattle.convert.specs.Round.{Halves, away, nearest, roundedQuotient, rawFor}
+use Rattle.convert.specs.Asked.{andThen, orRefused, askedOf, nearestRaw, fittingRaw, askedRaw}
+use Rattle.convert.proofs.Rounds.{within-half, met, quotient-is}
+use Rattle.convert.proofs.Ring.{mul-neg, equal, N, D, Δ, over-is, under-is}
+
+-- THE COMMON POWER OF TEN is the smallest: a number n over 10^tens, where no smaller power does, is whole times 10^t only from t = tens on.
+pub smallest-power : (n tens t q : ℕ) → (n % 10 ≡ 0 → ⊥) → n * 10 ^ t ≡ q * 10 ^ tens → tens ≤ t
+smallest-power n tens t q h e = go (leb tens t) refl
+  where
+    go : (b : Bool) → leb tens t ≡ b → tens ≤ t
+    go true y = leb-true tens t y
+    go false y =
+        let l = leb-false tens t y in
+        let j : tens ≡ suc (tens - suc t) + t = omega arith in
+        let r = 10 ^ (tens - suc t) in
+        let o : 0 < 10 ^ t = omega (arith, pow-le-pow-right (lit< {m = 0} {n = 10} tt) {i = 0} {j = t} (omega arith)) in
+        let p : 10 ^ tens ≡ r * 10 * 10 ^ t = ap (λ (m : ℕ). 10 ^ m) j ∙ pow-add 10 (suc (tens - suc t)) t ∙ ap (λ (m : ℕ). m * 10 ^ t) (pow-suc 10 (tens - suc t)) in
+        let g : n ≡ q * (r * 10) = eq-of-mul-eq-mul-right (10 ^ t) o n (q * (r * 10)) (e ∙ ap (λ (m : ℕ). q * m) p ∙ sym (mul-assoc q (r * 10) (10 ^ t))) in
+        absurd (h (ap (λ (m : ℕ). m % 10) (g ∙ sym (mul-assoc q r 10)) ∙ mul-mod-left (q * r) 10))
+
+-- COEFFICIENTS OF A METHOD AND A RAW NUMBER OF AN ELEMENT show the fraction itself.
+pub fraction-exact : (k : Coefficients) (i : ℤ) → allSmall k ≡ true → natAbs i < 2 ^ 32 → fractionOf k i ≡ fraction k i
+unfolding fractionOf
+fraction-exact k i s h = rw (s, lt-ltb (natAbs i) (2 ^ 32) h)
+
+-- ---- the number that is stored
+module _ (up : Halves) (k : Coefficients) (p q : ℤ) where
+  abbrev over : ℤ
+  over = k .b *ℤ p +ℤ k .c *ℤ q
+
+  abbrev under : ℤ
+  under = k .e *ℤ p +ℤ k .f *ℤ q
+
+  -- 17 ONLY WHERE e·P + f = 0
+  pub none-only : (n : ℕ) → rawFor up k p q ≡ refused n → under ≡ pos 0
+  unfolding rawFor
+  none-only n h = go under refl h
+    where
+      go : (d : ℤ) → under ≡ d → roundedQuotient up over d ≡ refused n → under ≡ pos 0
+      go (pos zero) e r = e
+      go (pos (suc d)) e r = let z : _≡_ {A = ℕ} 0 1 = cc in absurd (omega arith)
+      go (negsuc d) e r = let z : _≡_ {A = ℕ} 0 1 = cc in absurd (omega arith)
+
+  -- THE STORED NUMBER is the nearest: within half a step of the exact quotient.
+  pub stored-near : (z : ℤ) → rawFor up k p q ≡ given z → 2 * natAbs (z *ℤ under -ℤ over) ≤ natAbs under
+  unfolding rawFor
+  stored-near z h = go under refl h
+    where
+      near : (d : ℤ) → (d ≡ pos 0 → ⊥) → roundedQuotient up over d ≡ given z → 2 * natAbs (z *ℤ d -ℤ over) ≤ natAbs d
+      near d n r =
+          let e : nearest up over d ≡ z = let y = quotient-is up over d n in cc in
+          subst (λ (x : ℤ). 2 * natAbs (x *ℤ d -ℤ over) ≤ natAbs d) e (within-half up over d n)
+
+      go : (d : ℤ) → under ≡ d → roundedQuotient up over d ≡ given z → 2 * natAbs (z *ℤ d -ℤ over) ≤ natAbs d
+      go (pos zero) e r = let x : _≡_ {A = ℕ} 0 1 = cc in absurd (omega arith)
+      go (pos (suc d)) e r = near (pos (suc d)) (λ y. let x : _≡_ {A = ℕ} (suc d) 0 = cc in omega arith) r
+      go (negsuc d) e r = near (negsuc d) (λ y. let x : _≡_ {A = ℕ} 0 1 = cc in omega arith) r
+
+eqZ-same : (z : ℤ) → eqZ z z ≡ true
+eqZ-same (pos n) = eq-eqb n n refl
+eqZ-same (negsuc n) = eq-eqb n n refl
+
+-- WHAT IS SHOWN STORES THE SAME NUMBER: the value of a raw number, asked for, stores that raw number, by any rule on halves.
+module _ (up : Halves) (k : Coefficients) (i : ℤ) (s : sameProducts k ≡ false) where
+  abbrev n₀ : ℤ
+  n₀ = N (k .b) (k .c) (k .e) (k .f) i
+
+  abbrev d₀ : ℤ
+  d₀ = D (k .b) (k .c) (k .e) (k .f) i
+
+  abbrev δ : ℤ
+  δ = Δ (k .b) (k .c) (k .e) (k .f) i
+
+  δ-some : δ ≡ pos 0 → ⊥
+  δ-some h =
+      let e : k .b *ℤ k .f ≡ k .c *ℤ k .e = equal (k .b *ℤ k .f) (k .c *ℤ k .e) h in
+      clash (sym (eqZ-same (k .c *ℤ k .e)) ∙ sym (ap (λ (x : ℤ). eqZ x (k .c *ℤ k .e)) e) ∙ s)
+
+  minus-some : negℤ δ ≡ pos 0 → ⊥
+  minus-some h = δ-some (sym (negℤ-negℤ δ) ∙ ap negℤ h)
+
+  -- both signs turned, the quotient is the same
+  turn : (x y : ℤ) → x *ℤ negℤ n₀ +ℤ y *ℤ negℤ d₀ ≡ negℤ (x *ℤ n₀ +ℤ y *ℤ d₀)
+  turn x y = ap₂ _+ℤ_ (mul-neg x n₀) (mul-neg y d₀) ∙ sym (negℤ-+ℤ (x *ℤ n₀) (y *ℤ d₀))
+
+  exact : (x y δ₀ : ℤ) → (δ₀ ≡ pos 0 → ⊥) → k .b *ℤ x +ℤ k .c *ℤ y ≡ i *ℤ δ₀ → k .e *ℤ x +ℤ k .f *ℤ y ≡ δ₀ → rawFor up k x y ≡ given i
+  unfolding rawFor
+  exact x y δ₀ h p q = ap₂ (roundedQuotient up) p q ∙ sym (quotient-is up (i *ℤ δ₀) δ₀ h) ∙ ap given (met up i δ₀ h)
+
+  plain : rawFor up k n₀ d₀ ≡ given i
+  plain = exact n₀ d₀ δ δ-some (over-is (k .b) (k .c) (k .e) (k .f) i) (under-is (k .b) (k .c) (k .e) (k .f) i)
+
+  turned-over : rawFor up k (negℤ n₀) (negℤ d₀) ≡ given i
+  turned-over =
+      exact (negℤ n₀) (negℤ d₀) (negℤ δ) minus-some
+      (turn (k .b) (k .c) ∙ ap negℤ (over-is (k .b) (k .c) (k .e) (k .f) i) ∙ sym (mul-neg i δ))
+      (turn (k .e) (k .f) ∙ ap negℤ (under-is (k .b) (k .c) (k .e) (k .f) i))
+
+  pub shown-stored : (p q : ℤ) → fraction k i ≡ number p q → rawFor up k p q ≡ given i
+  unfolding fraction
+  shown-stored p q h = go d₀ refl h
+    where
+      go : (d : ℤ) → d₀ ≡ d → turned n₀ d ≡ number p q → rawFor up k p q ≡ given i
+      go (pos zero) e r = let z : _≡_ {A = ℕ} 0 1 = cc in absurd (omega arith)
+      go (pos (suc d)) e r =
+          let x : n₀ ≡ p = cc in
+          let y : d₀ ≡ q = cc in
+          ap₂ (rawFor up k) (sym x) (sym y) ∙ plain
+      go (negsuc d) e r =
+          let x : negℤ n₀ ≡ p = cc in
+          let m : pos (suc d) ≡ q = cc in
+          let y : negℤ d₀ ≡ q = ap negℤ e ∙ m in
+          ap₂ (rawFor up k) (sym x) (sym y) ∙ turned-over
+
+-- ---- a physical write that is not refused: its value has the form, lies within the limits, and the nearest raw number fits
+pub record Stores (lower upper : Scaled) (k : Coefficients) (t : Shape) (mask : ℕ) (s : List ℕ) (z : ℤ) : Type 0 where
+  pub asked : Scaled
+  pub form : askedOf s ≡ given asked
+  pub within : withinLimits lower upper asked ≡ true
+  pub near : nearestRaw away k asked ≡ given z
+  pub fits : fitsRaw t mask z ≡ true
+
+-- the judgements one by one
+gave : {A B : Type 0} (a : Answer A) (f : A → Answer B) (z : B) → andThen a f ≡ given z → (x : A) × (a ≡ given x) × (f x ≡ given z)
+gave (given x) f z h = (x, refl, h)
+gave (refused n) f z h = let y : _≡_ {A = ℕ} 0 1 = cc in absurd (omega arith)
+
+good : {A : Type 0} (n : ℕ) (b : Bool) (a x : A) → orRefused n b a ≡ given x → (b ≡ true) × (a ≡ x)
+good n true a x h = (refl, cc)
+good n false a x h = let y : _≡_ {A = ℕ} 0 1 = cc in absurd (omega arith)
+
+pub asked-stores : (lower upper : Scaled) (k : Coefficients) (t : Shape) (mask : ℕ) (s : List ℕ) (z : ℤ) → askedRaw lower upper k t mask s ≡ given z → Stores lower upper k t mask s z
+unfolding askedRaw
+asked-stores lower upper k t mask s z h =
+    let a = gave (askedOf s) (λ d. andThen (orRefused 16 (withinLimits lower upper d) d) (λ d. fittingRaw t mask (nearestRaw away k d))) z h in
+    let b = gave (orRefused 16 (withinLimits lower upper (a .0)) (a .0)) (λ d. fittingRaw t mask (nearestRaw away k d)) z (a .2) in
+    let w = good 16 (withinLimits lower upper (a .0)) (a .0) (b .0) (b .1) in
+    let c = gave (nearestRaw away k (b .0)) (λ y. orRefused 18 (fitsRaw t mask y) y) z (b .2) in
+    let f = good 18 (fitsRaw t mask (c .0)) (c .0) z (c .2) in
+    record {
+      asked = a .0;
+      form = a .1;
+      within = w .0;
+      near = ap (nearestRaw away k) (w .1) ∙ c .1 ∙ ap given (f .1);
+      fits = ap (fitsRaw t mask) (sym (f .1)) ∙ f .0;
+    }

@@ -1,0 +1,11 @@
+-- Laws that belong to no one function.
+pub mod Wholes
+pub mod Limits
+pub mod Methods
+pub mod Floats
+pub mod Rounds
+pub mod Showns
+pub mod Askeds
+pub mod Verbals
+pub mod Ring
+pub mod Laws

@@ -1,0 +1,45 @@
+-- A physical write: from the asked text to the raw number.
+use mathlib.Core.Bool.{Bool, cond}
+use mathlib.Core.List.{List}
+use Prim.Native.Nat.{ℕ, _^_}
+use lib.Dec.{leb}
+use lib.IntN.{ℤ, pos}
+use Rattle.number.specs.Answer.{Answer, given, refused}
+use Rattle.number.specs.Decimal.{Scaled, decimalOf}
+use Rattle.cell.specs.declared.kind.Shape.{Shape}
+use Rattle.cell.specs.Raw.{fitsRaw}
+use Rattle.convert.specs.declared.method.Coefficients.{Coefficients}
+use Rattle.convert.specs.Whole.{signedOf, allSmall}
+use Rattle.convert.specs.Limit.{withinLimits}
+use Rattle.convert.specs.Round.{Halves, away, rawFor}
+
+-- The first of several judgements that refuses.
+abbrev pub andThen : {A B : Type 0} → Answer A → (A → Answer B) → Answer B
+andThen (given a) f = f a
+andThen (refused k) f = refused k
+
+abbrev pub orRefused : {A : Type 0} → ℕ → Bool → A → Answer A
+orRefused k good a = cond good (given a) (refused k)
+
+-- "15: asked value outside its form": it is a decimal, "a whole part over ten-power of size at most 10^9".
+abbrev pub asDecimal : Answer Scaled → Answer Scaled
+asDecimal (given d) = orRefused 15 (leb (d .whole) 1000000000) d
+asDecimal (refused k) = refused 15
+
+unfoldable pub askedOf : List ℕ → Answer Scaled
+askedOf s = asDecimal (decimalOf s)
+
+-- "17: no raw value exists". (There is none by coefficients that no method has.)
+unfoldable pub nearestRaw : Halves → Coefficients → Scaled → Answer ℤ
+nearestRaw up k d = cond (allSmall k) (rawFor up k (signedOf (d .negative) (d .whole)) (pos (10 ^ d .tens))) (refused 17)
+
+-- "18: doesn't fit type or mask"
+abbrev pub fittingRaw : Shape → ℕ → Answer ℤ → Answer ℤ
+fittingRaw t mask a = andThen a (λ z. orRefused 18 (fitsRaw t mask z) z)
+
+-- "Write order: .. 15, 16, 17, 18": form, limits, nearest raw number, type and mask.
+unfoldable pub askedRaw : Scaled → Scaled → Coefficients → Shape → ℕ → List ℕ → Answer ℤ
+askedRaw lower upper k t mask s =
+    andThen (askedOf s) (λ d.
+    andThen (orRefused 16 (withinLimits lower upper d) d) (λ d.
+    fittingRaw t mask (nearestRaw away k d)))

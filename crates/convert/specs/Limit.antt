@@ -1,0 +1,21 @@
+-- Limits are exact decimals.
+use mathlib.Core.Bool.{Bool, _&&_}
+use Prim.Native.Nat.{_*_, _^_}
+use lib.Dec.{leb}
+use lib.Signed.{leZ}
+use Rattle.number.specs.Decimal.{Scaled}
+use Rattle.convert.specs.Whole.{signedOf}
+
+-- A decimal that a text can write: "1 to 10 digits in all, .. at most 6 digits after it".
+unfoldable pub formed : Scaled → Bool
+formed d = leb (d .whole) 9999999999 && leb (d .tens) 6
+
+-- A decimal is at most another. (One that no text can write is at most none, and none is at most it.)
+unfoldable pub atMost : Scaled → Scaled → Bool
+atMost a b =
+    (formed a && formed b)
+    && leZ (signedOf (a .negative) (a .whole * 10 ^ b .tens)) (signedOf (b .negative) (b .whole * 10 ^ a .tens))
+
+-- "The asked value must lie in LowerLimit to UpperLimit, ends included."
+abbrev pub withinLimits : Scaled → Scaled → Scaled → Bool
+withinLimits lower upper asked = atMost lower asked && atMost asked upper

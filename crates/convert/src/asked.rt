@@ -1,0 +1,124 @@
+// A physical write: from the asked text to the raw number to store.
+ghost use mathlib.Core.Path.{_≡_};
+ghost use Prim.Native.Nat.{_<_, _≤_, _^_};
+ghost use lib.IntN.{natAbs};
+ghost use Rattle.number.specs.Told.{scaled};
+ghost use Rattle.cell.specs.Kind.{shapeOf};
+ghost use Rattle.convert.specs.Whole.{Small};
+ghost use Rattle.convert.specs.Round.{away, rounded, nearest, rawFor};
+ghost use Rattle.convert.specs.Asked.{fittingRaw, nearestRaw, askedRaw};
+ghost use Rattle.convert.specs.Told.{toldRaw};
+use crate::limit::at_most;
+use crate::method::Coefficients;
+use crate::whole::all_small;
+use crate::whole::ten;
+use crate::whole::with_sign;
+use cell::raw::fits_raw;
+use cell::size::size;
+use number::decimal::Decimal;
+use number::decimal::DecimalAnswer;
+use number::decimal::decimal_of;
+
+// Refusals: outside its form, outside limits, no raw value exists, doesn't fit type or mask.
+pub const NO_FORM: u8 = 15;
+
+pub const OUTSIDE_LIMITS: u8 = 16;
+
+pub const NO_RAW: u8 = 17;
+
+pub const NO_FIT: u8 = 18;
+// "the asked value has a whole part over ten-power of size at most 10^9"
+const MOST_ASKED: u64 = 1000000000;
+
+pub enum RawAnswer {
+    Raw(i64),
+    Refused { no: u8 },
+}
+
+// The size n/d rounded to the nearest whole number, halves up.
+fn rounded_of(n: u64, d: u64) -> u64
+    requires { ⌜ (n < 2 ^ 61) × (d < 2 ^ 61) × (0 < d) ⌝ }
+    ensures { λ r. ⌜ r ≡ rounded away n d ⌝ }
+{
+    let q = n / d;
+    if 2 * (n % d) < d {
+        return q;
+    }
+    q + 1
+}
+
+// The whole number nearest to n/d, halves away from zero.
+fn nearest_of(n: i64, d: i64) -> i64
+    requires { ⌜ (natAbs n < 2 ^ 61) × (natAbs d < 2 ^ 61) × (0 < natAbs d) ⌝ }
+    ensures { λ r. ⌜ r ≡ nearest away n d ⌝ }
+{
+    let m = rounded_of(size(n), size(d));
+    if n < 0 {
+        return with_sign(0 <= d, m);
+    }
+    with_sign(d < 0, m)
+}
+
+// The raw number nearest to what p/q asks.
+fn raw_for(k: Coefficients, p: i64, q: i64) -> RawAnswer
+    requires { ⌜ Small k ⌝ }
+    requires { ⌜ (natAbs p ≤ 1000000000) × (natAbs q ≤ 1000000) ⌝ }
+    ensures { λ r. ⌜ toldRaw r ≡ rawFor away k p q ⌝ }
+{
+    let n = k.b * p + k.c * q;
+    let d = k.e * p + k.f * q;
+    if d == 0 {
+        return RawAnswer::Refused { no: NO_RAW };
+    }
+    RawAnswer::Raw(nearest_of(n, d))
+}
+
+// The raw number nearest to what a decimal asks.
+fn nearest_raw(k: Coefficients, d: Decimal) -> RawAnswer
+    requires { ⌜ (d .whole ≤ 1000000000) × (d .tens ≤ 6) ⌝ }
+    ensures { λ r. ⌜ toldRaw r ≡ nearestRaw away k (scaled d) ⌝ }
+{
+    if all_small(k) {
+        return raw_for(k, with_sign(d.negative, d.whole), ten(d.tens) as i64);
+    }
+    RawAnswer::Refused { no: NO_RAW }
+}
+
+// A raw number where it fits type and mask.
+fn fitting(answer: RawAnswer, kind: u64, mask: u64) -> RawAnswer
+    ensures { λ r. ⌜ toldRaw r ≡ fittingRaw (shapeOf kind) mask (toldRaw answer) ⌝ }
+{
+    match answer {
+        RawAnswer::Raw(raw) => {
+            if fits_raw(kind, mask, raw) {
+                return RawAnswer::Raw(raw);
+            }
+            RawAnswer::Refused { no: NO_FIT }
+        }
+        RawAnswer::Refused { no } => RawAnswer::Refused { no },
+    }
+}
+
+// The raw number that an asked text stores, judged by its form, the limits, the coefficients, and type and mask.
+pub fn asked_raw(
+    asked: &[u8],
+    lower: Decimal,
+    upper: Decimal,
+    k: Coefficients,
+    kind: u64,
+    mask: u64,
+) -> RawAnswer
+    ensures { λ r. ⌜ toldRaw r ≡ askedRaw (scaled lower) (scaled upper) k (shapeOf kind) mask (now (asked .entry)) ⌝ }
+{
+    let answer = decimal_of(asked);
+    let DecimalAnswer::Number(d) = answer else {
+        return RawAnswer::Refused { no: NO_FORM };
+    };
+    if MOST_ASKED < d.whole {
+        return RawAnswer::Refused { no: NO_FORM };
+    }
+    if at_most(lower, d) & at_most(d, upper) {
+        return fitting(nearest_raw(k, d), kind, mask);
+    }
+    RawAnswer::Refused { no: OUTSIDE_LIMITS }
+}

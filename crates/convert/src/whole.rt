@@ -1,0 +1,80 @@
+// What the conversions rest on: signs, powers of ten, and tests on decimals and coefficients.
+ghost use mathlib.Core.Path.{_≡_};
+ghost use Prim.Native.Nat.{_≤_, _<_, _*_, _^_, max};
+ghost use Rattle.number.specs.Told.{scaled};
+ghost use Rattle.convert.specs.Whole.{signedOf, allSmall};
+ghost use Rattle.convert.specs.Limit.{formed};
+use crate::method::Coefficients;
+use cell::size::size;
+use number::decimal::Decimal;
+
+// The most that ten digits write, and the most digits after the point.
+const MOST_WHOLE: u64 = 9999999999;
+
+const MOST_TENS: u32 = 6;
+
+// "Each of the four is at most 10^9 in size."
+const MOST_COEFFICIENT: u64 = 1000000000;
+
+// The number of a size, with or without a minus.
+pub fn with_sign(negative: bool, n: u64) -> i64
+    requires { ⌜ n < 2 ^ 63 ⌝ }
+    ensures { λ r. ⌜ r ≡ signedOf negative n ⌝ }
+{
+    let x = n as i64;
+    if negative {
+        return 0 - x;
+    }
+    x
+}
+
+// A power of ten.
+pub fn ten(n: u32) -> u64
+    requires { ⌜ n ≤ 6 ⌝ }
+    ensures { λ r. ⌜ r ≡ 10 ^ n ⌝ }
+{
+    match n {
+        0 => 1,
+        1 => 10,
+        2 => 100,
+        3 => 1000,
+        4 => 10000,
+        5 => 100000,
+        _ => 1000000,
+    }
+}
+
+// The larger of two powers.
+pub fn larger(a: u32, b: u32) -> u32
+    ensures { λ r. ⌜ r ≡ max a b ⌝ }
+{
+    if a < b {
+        return b;
+    }
+    a
+}
+
+// Whether a decimal has the form that a text can write.
+pub fn is_formed(d: Decimal) -> bool
+    ensures { λ r. ⌜ r ≡ formed (scaled d) ⌝ }
+{
+    (d.whole <= MOST_WHOLE) & (d.tens <= MOST_TENS)
+}
+
+// A decimal's whole number times a power of ten.
+pub fn times_ten(d: Decimal, tens: u32) -> i64
+    requires { ⌜ (d .whole ≤ 9999999999) × (tens ≤ 6) ⌝ }
+    ensures { λ r. ⌜ r ≡ signedOf (d .negative) (d .whole * 10 ^ tens) ⌝ }
+{
+    with_sign(d.negative, d.whole * ten(tens))
+}
+
+// Whether each of the four is at most 10^9 in size.
+pub fn all_small(k: Coefficients) -> bool
+    ensures { λ r. ⌜ r ≡ allSmall k ⌝ }
+{
+    (size(k.b) <= MOST_COEFFICIENT)
+        & (size(k.c) <= MOST_COEFFICIENT)
+        & (size(k.e) <= MOST_COEFFICIENT)
+        & (size(k.f) <= MOST_COEFFICIENT)
+}

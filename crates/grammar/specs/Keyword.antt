@@ -1,0 +1,162 @@
+-- A token where a keyword is expected: bare, after `/begin`, after `/end` (document 01, "What the reader takes" and "Numbers we answer with").
+use Prim.Native.Nat.{ℕ, zero, suc, _+_, _-_}
+use mathlib.Core.List.{List, [], _∷_}
+use mathlib.Core.Bool.{Bool, true, false, cond, not, _&&_, _||_}
+use lib.ListN.{length}
+use lib.Dec.{ltb, leb, eqb}
+use Rattle.text.specs.Answer.{Answer, given, Kind, is}
+use Rattle.text.specs.Answer as piece
+use Rattle.text.specs.Skip.{skipBlock}
+use Rattle.words.specs.Kind as word
+use Rattle.words.specs.Class.{classAt}
+use Rattle.grammar.specs.Codes.{FILE, ANY, PROJECT, MODULE, CHARACTERISTIC, AXIS-DESCR, CURVE, MAP}
+use Rattle.grammar.specs.Sections.{object, axis, none}
+use Rattle.grammar.specs.Rows.{rowCells, rowCell, needCells, needCell}
+use Rattle.grammar.specs.Row.{outside}
+use Rattle.grammar.specs.Move.{View, current, state, items, begun, ended, finished, idle, writes, Move, went, refused}
+use Rattle.grammar.specs.Parameter.{wrong}
+use Rattle.grammar.specs.declared.state.State.{State}
+use Rattle.grammar.specs.declared.state.Act.{Act}
+
+-- the first row from i on, of f rows, of the word w in the block b; the row past them where there is none
+unfoldable pub rowFrom : ℕ → ℕ → ℕ → ℕ → ℕ
+rowFrom zero i b w = i
+rowFrom (suc f) i b w = cond (eqb (rowCell i 0) b && eqb (rowCell i 1) w) i (rowFrom f (suc i) b w)
+
+unfoldable pub rowOf : ℕ → ℕ → ℕ
+rowOf b w = rowFrom (length rowCells) 0 b w
+
+abbrev pub isRow : ℕ → Bool
+isRow i = ltb i (length rowCells)
+
+-- a keyword's slot, its counting slot
+abbrev pub seen : View → ℕ → ℕ
+seen v i = current v (rowCell i 3) (rowCell i 4)
+
+-- "an unused conversion word, NUMBER or AXIS_PTS_REF": row i may stand where the current record says so
+abbrev pub mayStand : View → ℕ → Bool
+mayStand v i = eqb (rowCell i 5) 0 || leb (rowCell i 6) (current v (rowCell i 3) (rowCell i 5)) && leb (current v (rowCell i 3) (rowCell i 5)) (rowCell i 7)
+
+-- how often a keyword may stand: "more AXIS_DESCR than the type has (VALUE, VAL_BLK none)"; any other once
+abbrev pub axesOf : ℕ → ℕ
+axesOf type = cond (eqb type MAP) 2 (cond (eqb type CURVE) 1 0)
+
+abbrev pub limitOf : View → ℕ → ℕ
+limitOf v i = cond (eqb (rowCell i 8) axis) (axesOf (current v object 4)) 1
+
+-- "once-only keyword twice"
+abbrev pub isOften : View → ℕ → Bool
+isOften v i = not (eqb (rowCell i 4) 0) && leb (limitOf v i) (seen v i)
+
+-- that the keyword of row i was there is counted, and a record is added where the row says so
+abbrev pub counting : View → ℕ → Act
+counting v i =
+    cond (eqb (rowCell i 4) 0) idle
+    (record { adds = rowCell i 8; sec = rowCell i 3; slot = rowCell i 4; many = 1; a = seen v i + 1; b = 0; c = 0; d = 0 })
+
+-- a keyword of row i in the block b, from a up to e, whose block is then `inner`
+unfoldable pub stands : View → ℕ → ℕ → ℕ → ℕ → Move
+stands v i inner a e =
+    cond (not (mayStand v i)) (refused 5 a)
+    (cond (isOften v i) (refused 6 a)
+    (went e (state items inner (rowCell i 9) 0) (counting v i)))
+
+-- ---- a bare word
+
+unfoldable pub plainRow : View → State → ℕ → ℕ → ℕ → Move
+plainRow v s i a e =
+    cond (not (isRow i)) (refused 5 a)
+    (cond (eqb (rowCell i 2) outside) (refused 9 a)
+    (stands v i (s .block) a e))
+
+-- keywords that are skipped may stand in every block; "the two versions also before PROJECT"
+abbrev pub homeOf : ℕ → ℕ
+homeOf b = cond (eqb b FILE) FILE ANY
+
+abbrev pub bareWord : View → State → ℕ → ℕ → word.Kind → Move
+bareWord v s a e (word.takenPlain c) = plainRow v s (rowOf (s .block) c) a e
+bareWord v s a e (word.skippedPlain c) = plainRow v s (rowOf (homeOf (s .block)) c) a e
+bareWord v s a e (word.takenBlock c) = refused 5 a
+bareWord v s a e (word.takenChoice c) = refused 5 a
+bareWord v s a e (word.skippedBlock c) = refused 5 a
+bareWord v s a e word.listedOnly = refused 9 a
+bareWord v s a e word.unlisted = refused 4 a
+
+-- ---- the word after `/begin`
+
+-- how many levels a block inside the block b may still hold: sixteen deep in all, PROJECT being the first
+abbrev pub depthOf : ℕ → ℕ
+depthOf b = cond (eqb b PROJECT) 1 (cond (eqb b MODULE) 2 (cond (eqb b AXIS-DESCR) 4 3))
+
+abbrev pub levelsIn : ℕ → ℕ
+levelsIn b = 15 - depthOf b
+
+abbrev pub ofSkip : State → Answer ℕ → Move
+ofSkip s (given e) = went e (state items (s .block) 0 0) idle
+ofSkip s (piece.refused n p) = refused n p
+
+unfoldable pub skips : List ℕ → State → ℕ → ℕ → Move
+skips x s a e = cond (eqb (s .block) FILE) (refused 5 a) (ofSkip s (skipBlock (levelsIn (s .block)) x a e))
+
+unfoldable pub opens : View → State → ℕ → ℕ → ℕ → Move
+opens v s c a e = cond (not (isRow (rowOf (s .block) c))) (refused 5 a) (stands v (rowOf (s .block) c) c a e)
+
+abbrev pub begunWord : List ℕ → View → State → ℕ → ℕ → word.Kind → Move
+begunWord x v s a e (word.takenBlock c) = opens v s c a e
+begunWord x v s a e (word.skippedBlock c) = skips x s a e
+begunWord x v s a e (word.takenPlain c) = refused 5 a
+begunWord x v s a e (word.takenChoice c) = refused 5 a
+begunWord x v s a e (word.skippedPlain c) = refused 5 a
+begunWord x v s a e word.listedOnly = refused 9 a
+begunWord x v s a e word.unlisted = refused 4 a
+
+-- ---- `/end`, and the word after it
+
+-- need i of the block b is met
+abbrev pub isMet : View → ℕ → ℕ → Bool
+isMet v b i =
+    not (eqb (needCell i 0) b)
+    || not (eqb (needCell i 2) 0 || leb (needCell i 3) (current v (needCell i 1) (needCell i 2)) && leb (current v (needCell i 1) (needCell i 2)) (needCell i 4))
+    || leb (needCell i 6) (current v (needCell i 1) (needCell i 5))
+
+unfoldable pub allMet : ℕ → View → ℕ → ℕ → Bool
+allMet zero v b i = true
+allMet (suc f) v b i = isMet v b i && allMet f v b (suc i)
+
+-- "parameter or needed keyword missing": at the block's `/end`; with nothing open `/end` is 3
+unfoldable pub ends : View → State → ℕ → ℕ → Move
+ends v s a e =
+    cond (eqb (s .block) FILE) (refused 3 a)
+    (cond (allMet (length needCells) v (s .block) 0) (went e (state ended (s .block) 0 0) idle) (refused 5 a))
+
+-- the block that holds b
+abbrev pub holderOf : ℕ → ℕ
+holderOf b = cond (eqb b PROJECT) FILE (cond (eqb b MODULE) PROJECT (cond (eqb b AXIS-DESCR) CHARACTERISTIC MODULE))
+
+-- "begin and end don't match" is 3; PROJECT's end is the text's
+abbrev pub closes : State → ℕ → ℕ → Move
+closes s a e = cond (eqb (s .block) PROJECT) (went e (state finished FILE 0 0) idle) (went e (state items (holderOf (s .block)) 0 0) idle)
+
+abbrev pub endedWord : State → ℕ → ℕ → word.Kind → Move
+endedWord s a e (word.takenBlock c) = cond (eqb c (s .block)) (closes s a e) (refused 3 a)
+endedWord s a e (word.takenPlain c) = refused 3 a
+endedWord s a e (word.takenChoice c) = refused 3 a
+endedWord s a e (word.skippedBlock c) = refused 3 a
+endedWord s a e (word.skippedPlain c) = refused 3 a
+endedWord s a e word.listedOnly = refused 3 a
+endedWord s a e word.unlisted = refused 3 a
+
+-- ---- any piece, by the mode
+
+unfoldable pub item : List ℕ → View → State → Kind → ℕ → ℕ → Move
+item x v s kind a e =
+    cond (is kind piece.name) (bareWord v s a e (classAt x a e))
+    (cond (is kind piece.begin) (went e (state begun (s .block) 0 0) idle)
+    (cond (is kind piece.end) (ends v s a e)
+    (wrong 5 x kind a e)))
+
+unfoldable pub afterBegin : List ℕ → View → State → Kind → ℕ → ℕ → Move
+afterBegin x v s kind a e = cond (is kind piece.name) (begunWord x v s a e (classAt x a e)) (wrong 5 x kind a e)
+
+unfoldable pub afterEnd : List ℕ → State → Kind → ℕ → ℕ → Move
+afterEnd x s kind a e = cond (is kind piece.name) (endedWord s a e (classAt x a e)) (wrong 3 x kind a e)

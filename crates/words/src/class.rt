@@ -1,0 +1,93 @@
+// The class of a word, and the parameters of the skipped plain keywords.
+ghost use mathlib.Core.Path.{_≡_};
+ghost use Rattle.words.specs.Class.{classAt};
+ghost use Rattle.words.specs.Parameters.{parametersOf};
+ghost use Rattle.words.specs.Told.{toldClass, toldParameters};
+ghost use Rattle.words.specs.Inner.{kindOf};
+use crate::codes::A2ML_VERSION;
+use crate::codes::ASAP2_VERSION;
+use crate::codes::DISPLAY_IDENTIFIER;
+use crate::codes::FORMAT;
+use crate::codes::PHYS_UNIT;
+use crate::long;
+use crate::middle;
+use crate::short;
+
+// The longest of the short words, of the middle words, and of all.
+const SHORT: usize = 8;
+
+const MIDDLE: usize = 12;
+
+const LONGEST: usize = 28;
+
+// What document 01 does with a word, with its code.
+pub enum Class {
+    TakenBlock(u8),
+    TakenPlain(u8),
+    TakenChoice(u8),
+    SkippedBlock(u8),
+    SkippedPlain(u8),
+    ListedOnly,
+    Unlisted,
+}
+
+// What stands after a skipped plain keyword.
+pub enum Parameters {
+    String,
+    Name,
+    TwoWholeNumbers,
+    Nothing,
+}
+
+// The class that a number of the table stands for.
+fn class_from(k: u16) -> Class
+    ensures { λ r. ⌜ toldClass r ≡ kindOf k ⌝ }
+{
+    let code = (k % 256) as u8;
+    match k / 256 {
+        1 => Class::TakenBlock(code),
+        2 => Class::TakenPlain(code),
+        3 => Class::TakenChoice(code),
+        4 => Class::SkippedBlock(code),
+        5 => Class::SkippedPlain(code),
+        6 => Class::ListedOnly,
+        _ => Class::Unlisted,
+    }
+}
+
+// The class of the bytes between two places.
+pub fn class_of(s: &[u8], from: usize, to: usize) -> Class
+    ensures { λ r. ⌜ toldClass r ≡ classAt (now (s .entry)) from to ⌝ }
+{
+    if to < from {
+        return Class::Unlisted;
+    }
+    if s.len() < to {
+        return Class::Unlisted;
+    }
+    let n = to - from;
+    if n <= SHORT {
+        return class_from(short::number_of(s, from, n));
+    }
+    if n <= MIDDLE {
+        return class_from(middle::number_of(s, from, n));
+    }
+    if n <= LONGEST {
+        return class_from(long::number_of(s, from, n));
+    }
+    Class::Unlisted
+}
+
+// The parameters of a skipped plain keyword.
+pub fn parameters_of(code: u8) -> Parameters
+    ensures { λ r. ⌜ toldParameters r ≡ parametersOf code ⌝ }
+{
+    match code {
+        FORMAT => Parameters::String,
+        DISPLAY_IDENTIFIER => Parameters::Name,
+        PHYS_UNIT => Parameters::String,
+        ASAP2_VERSION => Parameters::TwoWholeNumbers,
+        A2ML_VERSION => Parameters::TwoWholeNumbers,
+        _ => Parameters::Nothing,
+    }
+}

@@ -4,7 +4,7 @@ use mathlib.Core.List.{List, [], _∷_}
 use mathlib.Core.Bool.{Bool, true, false, cond, not, _&&_, _||_}
 use lib.ListN.{length}
 use lib.Dec.{ltb, leb, eqb}
-use Rattle.text.specs.Answer.{Answer, given, Kind, is}
+use Rattle.text.specs.Answer.{Answer, given}
 use Rattle.text.specs.Answer as piece
 use Rattle.text.specs.Skip.{skipBlock}
 use Rattle.words.specs.Kind as word
@@ -14,7 +14,7 @@ use Rattle.grammar.specs.Sections.{object, axis, none}
 use Rattle.grammar.specs.Rows.{rowCells, rowCell, needCells, needCell}
 use Rattle.grammar.specs.Row.{outside}
 use Rattle.grammar.specs.Move.{View, current, state, items, begun, ended, finished, idle, writes, Move, went, refused}
-use Rattle.grammar.specs.Parameter.{wrong}
+use Rattle.grammar.specs.Parameter.{wrong, aName, aBegin, anEnd}
 use Rattle.grammar.specs.declared.state.State.{State}
 use Rattle.grammar.specs.declared.state.Act.{Act}
 
@@ -148,15 +148,15 @@ endedWord s a e word.unlisted = refused 3 a
 
 -- ---- any piece, by the mode
 
-unfoldable pub item : List ℕ → View → State → Kind → ℕ → ℕ → Move
-item x v s kind a e =
-    cond (is kind piece.name) (bareWord v s a e (classAt x a e))
-    (cond (is kind piece.begin) (went e (state begun (s .block) 0 0) idle)
-    (cond (is kind piece.end) (ends v s a e)
-    (wrong 5 x kind a e)))
+unfoldable pub item : List ℕ → View → State → ℕ → ℕ → ℕ → Move
+item x v s k a e =
+    cond (eqb k aName) (bareWord v s a e (classAt x a e))
+    (cond (eqb k aBegin) (went e (state begun (s .block) 0 0) idle)
+    (cond (eqb k anEnd) (ends v s a e)
+    (wrong 5 x k a e)))
 
-unfoldable pub afterBegin : List ℕ → View → State → Kind → ℕ → ℕ → Move
-afterBegin x v s kind a e = cond (is kind piece.name) (begunWord x v s a e (classAt x a e)) (wrong 5 x kind a e)
+unfoldable pub afterBegin : List ℕ → View → State → ℕ → ℕ → ℕ → Move
+afterBegin x v s k a e = cond (eqb k aName) (begunWord x v s a e (classAt x a e)) (wrong 5 x k a e)
 
-unfoldable pub afterEnd : List ℕ → State → Kind → ℕ → ℕ → Move
-afterEnd x s kind a e = cond (is kind piece.name) (endedWord s a e (classAt x a e)) (wrong 3 x kind a e)
+unfoldable pub afterEnd : List ℕ → State → ℕ → ℕ → ℕ → Move
+afterEnd x s k a e = cond (eqb k aName) (endedWord s a e (classAt x a e)) (wrong 3 x k a e)

@@ -1,12 +1,11 @@
 -- What a token leads to: the next state and what is written into the records, or a refusal.
-use Prim.Native.Nat.{ℕ, zero, suc, _+_, _-_}
+use Prim.Native.Nat.{ℕ, suc, _-_}
 use mathlib.Core.List.{List, [], _∷_}
-use mathlib.Core.Bool.{Bool, cond}
-use lib.ListN.{length, take}
-use lib.Dec.{eqb}
+use lib.ListN.{take}
 use Rattle.text.specs.declared.cursor.Cursor.{Cursor}
 use Rattle.records.specs.Records.{count, slot, put, add}
 use Rattle.records.specs.Cells.{sectionIn, countIn, slotIn, putIn, addIn}
+use Rattle.records.specs.declared.Section.{Section}
 use Rattle.grammar.specs.Sections.{sections, none}
 use Rattle.grammar.specs.declared.state.State.{State}
 use Rattle.grammar.specs.declared.state.Act.{Act}
@@ -58,8 +57,9 @@ abbrev pub puts : List (List (List ℕ)) → ℕ → ℕ → ℕ → List ℕ �
 puts d j i k [] = d
 puts d j i k (v ∷ vs) = puts (put d j i k v) j i (suc k) vs
 
+-- (a section that is none has no room, so that nothing is added to it)
 abbrev pub added : Act → List (List (List ℕ)) → List (List (List ℕ))
-added a d = cond (eqb (a .adds) none) d (add sections d (a .adds))
+added a d = add sections d (a .adds)
 
 unfoldable pub applied : Act → List (List (List ℕ)) → List (List (List ℕ))
 applied a d = puts (added a d) (a .sec) (count (added a d) (a .sec) - 1) (a .slot) (values a)
@@ -80,12 +80,12 @@ moved (variant.Refused n p) = refused n p
 abbrev pub viewIn : List ℕ → View
 viewIn t = record { counts = λ j. countIn t (sectionIn sections j); slots = λ j. slotIn t (sectionIn sections j) }
 
-abbrev pub putsIn : List ℕ → ℕ → ℕ → ℕ → List ℕ → List ℕ
-putsIn t j i k [] = t
-putsIn t j i k (v ∷ vs) = putsIn (putIn t (sectionIn sections j) i k v) j i (suc k) vs
+abbrev pub putsIn : List ℕ → Section → ℕ → ℕ → List ℕ → List ℕ
+putsIn t c i k [] = t
+putsIn t c i k (v ∷ vs) = putsIn (putIn t c i k v) c i (suc k) vs
 
 abbrev pub addedIn : Act → List ℕ → List ℕ
-addedIn a t = cond (eqb (a .adds) none) t (addIn t (sectionIn sections (a .adds)))
+addedIn a t = addIn t (sectionIn sections (a .adds))
 
 unfoldable pub appliedIn : Act → List ℕ → List ℕ
-appliedIn a t = putsIn (addedIn a t) (a .sec) (countIn (addedIn a t) (sectionIn sections (a .sec)) - 1) (a .slot) (values a)
+appliedIn a t = putsIn (addedIn a t) (sectionIn sections (a .sec)) (countIn (addedIn a t) (sectionIn sections (a .sec)) - 1) (a .slot) (values a)

@@ -1,10 +1,10 @@
 -- A token where a parameter is expected (document 01, "Words and numbers" and "Numbers we answer with").
-use Prim.Native.Nat.{ℕ, zero, suc, _+_, _-_, _*_, _^_}
+use Prim.Native.Nat.{ℕ, zero, suc, _+_, _-_, min}
 use mathlib.Core.List.{List, [], _∷_}
 use mathlib.Core.Bool.{Bool, true, false, cond, not, _&&_, _||_}
 use lib.ListN.{length, getD}
 use lib.Dec.{ltb, leb, eqb}
-use Rattle.text.specs.Answer.{Kind, is}
+use Rattle.text.specs.Answer.{kindNumber}
 use Rattle.text.specs.Answer as piece
 use Rattle.text.specs.Bytes.{samePart}
 use Rattle.number.specs.Answer.{Answer, given, inRun}
@@ -17,14 +17,32 @@ use Rattle.words.specs.Kind as word
 use Rattle.words.specs.Class.{classAt}
 use Rattle.records.specs.Records.{mostOf}
 use Rattle.grammar.specs.Sections.{sections, entry, table, none}
-use Rattle.grammar.specs.Rows.{paramCell}
+use Rattle.grammar.specs.Rows.{paramCell, limitCell}
 use Rattle.grammar.specs.Move.{View, current, state, items, idle, writes, Move, went, refused}
+use Rattle.grammar.specs.declared.names.Found.{Found}
+use Rattle.grammar.specs.declared.names.Found.the-variants as found
 use Rattle.grammar.specs.declared.state.State.{State}
 use Rattle.grammar.specs.declared.state.Act.{Act}
 
--- "2: a number outside its form" goes before another refusal n of the piece from a up to e
-unfoldable pub wrong : ℕ → List ℕ → Kind → ℕ → ℕ → Move
-wrong n x kind a e = cond (is kind piece.number && not (hasForm x a e)) (refused 2 a) (refused n a)
+-- the kinds of a piece, by their numbers
+abbrev pub aName : ℕ
+aName = kindNumber piece.name
+
+abbrev pub aString : ℕ
+aString = kindNumber piece.string
+
+abbrev pub aNumber : ℕ
+aNumber = kindNumber piece.number
+
+abbrev pub aBegin : ℕ
+aBegin = kindNumber piece.begin
+
+abbrev pub anEnd : ℕ
+anEnd = kindNumber piece.end
+
+-- "2: a number outside its form" goes before another refusal n of the piece of kind k from a up to e
+unfoldable pub wrong : ℕ → List ℕ → ℕ → ℕ → ℕ → Move
+wrong n x k a e = cond (eqb k aNumber && not (hasForm x a e)) (refused 2 a) (refused n a)
 
 -- the parameter that is next, and the state after it
 abbrev pub kindOf : State → ℕ
@@ -33,17 +51,20 @@ kindOf s = paramCell (s .param) 0
 abbrev pub slotOf : State → ℕ
 slotOf s = paramCell (s .param) 1
 
-abbrev pub lowOf : State → ℕ
-lowOf s = paramCell (s .param) 2
-
-abbrev pub highOf : State → ℕ
-highOf s = paramCell (s .param) 3
+abbrev pub nextOf : State → ℕ
+nextOf s = paramCell (s .param) 2
 
 abbrev pub secOf : State → ℕ
-secOf s = paramCell (s .param) 5
+secOf s = paramCell (s .param) 3
+
+abbrev pub lowOf : State → ℕ
+lowOf s = limitCell (s .param) 0
+
+abbrev pub highOf : State → ℕ
+highOf s = limitCell (s .param) 1
 
 abbrev pub after : State → State
-after s = state items (s .block) (paramCell (s .param) 4) (s .left)
+after s = state items (s .block) (nextOf s) (s .left)
 
 -- the parameter goes to its slot, where it has one: n numbers
 unfoldable pub keeping : State → ℕ → ℕ → ℕ → ℕ → Act
@@ -67,13 +88,13 @@ takenWhole s a e n =
 unfoldable pub takenPairs : State → ℕ → ℕ → Move
 takenPairs s e n =
     cond (eqb n 0) (went e (state items (s .block) 0 0) (keeping s 1 n 0 0))
-    (went e (state items (s .block) (paramCell (s .param) 4) n) (keeping s 1 n 0 0))
+    (went e (state items (s .block) (nextOf s) n) (keeping s 1 n 0 0))
 
 -- ---- decimals
 
--- the decimal in three slots of the current record
+-- the decimal in three slots of the current record (a decimal's power of ten is at most 6)
 abbrev pub decimalIn : View → ℕ → ℕ → Scaled
-decimalIn v j k = record { negative = eqb (current v j k) 1; whole = current v j (k + 1); tens = current v j (k + 2) }
+decimalIn v j k = record { negative = eqb (current v j k) 1; whole = current v j (k + 1); tens = min (current v j (k + 2)) 7 }
 
 -- an entry of the current table from record i on has the number
 unfoldable pub hasEntry : ℕ → View → ℕ → ℕ → ℕ → Bool
@@ -118,6 +139,11 @@ takenNumber x v s a e =
 
 -- ---- names
 
+-- what `Found` answers: the record's number plus one, 0 for none
+abbrev pub foundAt : Found → ℕ
+foundAt (found.At i) = suc i
+foundAt found.Nothing = 0
+
 -- the first record of section j, from i on, whose name is the bytes from a up to e; its number plus one, 0 for none
 unfoldable pub findFrom : ℕ → List ℕ → View → ℕ → ℕ → ℕ → ℕ → ℕ
 findFrom zero x v j i a e = 0
@@ -129,9 +155,9 @@ find x v j a e = findFrom (v .counts j) x v j 0 a e
 -- "name twice among objects .., methods, tables or layouts each" is 6; one too many is 8
 unfoldable pub takenNew : List ℕ → View → State → ℕ → ℕ → Move
 takenNew x v s a e =
-    cond (not (eqb (find x v (lowOf s) a e) 0)) (refused 6 a)
-    (cond (leb (mostOf sections (lowOf s)) (v .counts (lowOf s))) (refused 8 a)
-    (went e (after s) (newRecord (lowOf s) 4 a e (v .counts (highOf s)) (s .block))))
+    cond (not (eqb (find x v (secOf s) a e) 0)) (refused 6 a)
+    (cond (leb (mostOf sections (secOf s)) (v .counts (secOf s))) (refused 8 a)
+    (went e (after s) (newRecord (secOf s) 4 a e (v .counts (slotOf s)) (s .block))))
 
 -- a choice: of the right range it is kept; "Every other .. choice word is refused: 9 if document 000 lists it, else 4", and 5 what document 01 takes elsewhere
 abbrev pub ofChoice : State → ℕ → ℕ → word.Kind → Move
@@ -169,8 +195,8 @@ wantsText s = eqb (kindOf s) 2 || eqb (kindOf s) 13
 abbrev pub wantsName : State → Bool
 wantsName s = eqb (kindOf s) 1 || eqb (kindOf s) 5 || eqb (kindOf s) 6
 
-unfoldable pub taken : List ℕ → View → State → Kind → ℕ → ℕ → Move
-taken x v s kind a e =
-    cond (wantsText s) (cond (is kind piece.string) (takenText s a e) (wrong 5 x kind a e))
-    (cond (wantsName s) (cond (is kind piece.name) (takenName x v s a e) (wrong 5 x kind a e))
-    (cond (is kind piece.number) (takenNumber x v s a e) (refused 5 a)))
+unfoldable pub taken : List ℕ → View → State → ℕ → ℕ → ℕ → Move
+taken x v s k a e =
+    cond (wantsText s) (cond (eqb k aString) (takenText s a e) (wrong 5 x k a e))
+    (cond (wantsName s) (cond (eqb k aName) (takenName x v s a e) (wrong 5 x k a e))
+    (cond (eqb k aNumber) (takenNumber x v s a e) (refused 5 a)))

@@ -4,7 +4,7 @@ use mathlib.Core.List.{List}
 use mathlib.Core.Bool.{cond}
 use lib.ListN.{length}
 use lib.Dec.{eqb}
-use Rattle.text.specs.Answer.{Answer, given, Piece, piece, finish}
+use Rattle.text.specs.Answer.{Answer, given, Piece, piece, finish, kindNumber}
 use Rattle.text.specs.Answer as text
 use Rattle.text.specs.Token.{nextToken}
 use Rattle.records.specs.Records.{add, empty}
@@ -16,16 +16,16 @@ use Rattle.grammar.specs.Keyword.{item, afterBegin, afterEnd}
 use Rattle.grammar.specs.declared.state.State.{State}
 
 -- a piece, by what is expected; after PROJECT's end any is 3
-unfoldable pub onPiece : List ℕ → View → State → text.Kind → ℕ → ℕ → Move
-onPiece x v s kind a e =
-    cond (eqb (s .mode) finished) (wrong 3 x kind a e)
-    (cond (eqb (s .mode) begun) (afterBegin x v s kind a e)
-    (cond (eqb (s .mode) ended) (afterEnd x s kind a e)
-    (cond (eqb (s .param) 0) (item x v s kind a e) (taken x v s kind a e))))
+unfoldable pub onPiece : List ℕ → View → State → ℕ → ℕ → ℕ → Move
+onPiece x v s k a e =
+    cond (eqb (s .mode) finished) (wrong 3 x k a e)
+    (cond (eqb (s .mode) begun) (afterBegin x v s k a e)
+    (cond (eqb (s .mode) ended) (afterEnd x s k a e)
+    (cond (eqb (s .param) 0) (item x v s k a e) (taken x v s k a e))))
 
 -- the text's end: "text ends early" is 3 there
 abbrev pub onToken : List ℕ → View → State → Answer Piece → Move
-onToken x v s (given (piece kind a e)) = onPiece x v s kind a e
+onToken x v s (given (piece kind a e)) = onPiece x v s (kindNumber kind) a e
 onToken x v s (given (finish p)) = cond (eqb (s .mode) finished) over (refused 3 p)
 onToken x v s (text.refused n p) = refused n p
 

@@ -34,9 +34,9 @@ decimal s = param 4 s 0 0
 abbrev pub choice : ℕ → ℕ → ℕ → Param
 choice s l h = param 5 s l h
 
--- the name of a new record of section j, which holds records of section h
-abbrev pub new : ℕ → ℕ → Param
-new j h = param 6 0 j h
+-- the name of a new record, which holds records of section h
+abbrev pub new : ℕ → Param
+new h = param 6 h 0 0
 
 -- MaxAxisPoints
 abbrev pub points : ℕ → Param
@@ -58,9 +58,9 @@ upper s = param 10 s 0 0
 abbrev pub pairs : ℕ → Param
 pairs s = param 11 s 0 65535
 
--- the number of a pair, which makes a new record of section j
-abbrev pub number : ℕ → Param
-number j = param 12 0 j 0
+-- the number of a pair, which makes a new entry
+abbrev pub number : Param
+number = param 12 0 0 0
 
 -- the text of a pair
 abbrev pub text : ℕ → Param

@@ -31,13 +31,13 @@ rows =
     ∷ keyword MOD-COMMON ALIGNMENT-BYTE file 5 (alignment 6 ∷ [])
     ∷ keyword MOD-COMMON ALIGNMENT-WORD file 7 (alignment 8 ∷ [])
     ∷ keyword MOD-COMMON ALIGNMENT-LONG file 9 (alignment 10 ∷ [])
-    ∷ block MODULE COMPU-METHOD method (new method none ∷ string 0 ∷ choice 4 IDENTICAL TAB-VERB ∷ string 0 ∷ string 0 ∷ [])
+    ∷ block MODULE COMPU-METHOD method (new none ∷ string 0 ∷ choice 4 IDENTICAL TAB-VERB ∷ string 0 ∷ string 0 ∷ [])
     ∷ under COMPU-METHOD COEFFS method 5 4 RAT-FUNC (nought ∷ decimal 6 ∷ decimal 9 ∷ nought ∷ decimal 12 ∷ decimal 15 ∷ [])
     ∷ under COMPU-METHOD COEFFS-LINEAR method 18 4 LINEAR (decimal 19 ∷ decimal 22 ∷ [])
     ∷ under COMPU-METHOD COMPU-TAB-REF method 25 4 TAB-VERB (name 26 ∷ [])
-    ∷ block MODULE COMPU-VTAB table (new table entry ∷ string 0 ∷ choice 4 TAB-VERB TAB-VERB ∷ pairs 5 ∷ number entry ∷ text 2 ∷ [])
+    ∷ block MODULE COMPU-VTAB table (new entry ∷ string 0 ∷ choice 4 TAB-VERB TAB-VERB ∷ pairs 5 ∷ number ∷ text 2 ∷ [])
     ∷ keyword COMPU-VTAB DEFAULT-VALUE table 6 (string 7 ∷ [])
-    ∷ block MODULE RECORD-LAYOUT layout (new layout none ∷ [])
+    ∷ block MODULE RECORD-LAYOUT layout (new none ∷ [])
     ∷ keyword RECORD-LAYOUT ALIGNMENT-BYTE layout 4 (alignment 5 ∷ [])
     ∷ keyword RECORD-LAYOUT ALIGNMENT-WORD layout 6 (alignment 7 ∷ [])
     ∷ keyword RECORD-LAYOUT ALIGNMENT-LONG layout 8 (alignment 9 ∷ [])
@@ -46,10 +46,10 @@ rows =
     ∷ keyword RECORD-LAYOUT AXIS-PTS-Y layout 20 (whole 21 0 uint ∷ datatype 22 ∷ choice 23 INDEX-INCR INDEX-DECR ∷ choice 24 DIRECT DIRECT ∷ [])
     ∷ keyword RECORD-LAYOUT NO-AXIS-PTS-X layout 25 (whole 26 0 uint ∷ datatype 27 ∷ [])
     ∷ keyword RECORD-LAYOUT NO-AXIS-PTS-Y layout 28 (whole 29 0 uint ∷ datatype 30 ∷ [])
-    ∷ block MODULE AXIS-PTS object (new object axis ∷ string 0 ∷ whole 5 0 ulong ∷ name 10 ∷ name 6 ∷ decimal 0 ∷ name 8 ∷ points 12 ∷ decimal 13 ∷ upper 16 ∷ [])
+    ∷ block MODULE AXIS-PTS object (new axis ∷ string 0 ∷ whole 5 0 ulong ∷ name 10 ∷ name 6 ∷ decimal 0 ∷ name 8 ∷ points 12 ∷ decimal 13 ∷ upper 16 ∷ [])
     ∷ keyword AXIS-PTS BYTE-ORDER object 19 (choice 20 MSB-FIRST MSB-LAST ∷ [])
     ∷ keyword AXIS-PTS READ-ONLY object 23 []
-    ∷ block MODULE CHARACTERISTIC object (new object axis ∷ string 0 ∷ choice 4 VALUE MAP ∷ whole 5 0 ulong ∷ name 6 ∷ decimal 0 ∷ name 8 ∷ decimal 13 ∷ upper 16 ∷ [])
+    ∷ block MODULE CHARACTERISTIC object (new axis ∷ string 0 ∷ choice 4 VALUE MAP ∷ whole 5 0 ulong ∷ name 6 ∷ decimal 0 ∷ name 8 ∷ decimal 13 ∷ upper 16 ∷ [])
     ∷ keyword CHARACTERISTIC BYTE-ORDER object 19 (choice 20 MSB-FIRST MSB-LAST ∷ [])
     ∷ keyword CHARACTERISTIC BIT-MASK object 21 (whole 22 0 uint64 ∷ [])
     ∷ keyword CHARACTERISTIC READ-ONLY object 23 []
@@ -58,7 +58,7 @@ rows =
     ∷ under AXIS-DESCR AXIS-PTS-REF axis 13 1 COM-AXIS (name 14 ∷ [])
     ∷ keyword AXIS-DESCR READ-ONLY axis 16 []
     ∷ refusing AXIS-DESCR BYTE-ORDER
-    ∷ block MODULE MEASUREMENT object (new object axis ∷ string 0 ∷ datatype 4 ∷ name 8 ∷ whole 0 0 uint ∷ decimal 0 ∷ decimal 13 ∷ upper 16 ∷ [])
+    ∷ block MODULE MEASUREMENT object (new axis ∷ string 0 ∷ datatype 4 ∷ name 8 ∷ whole 0 0 uint ∷ decimal 0 ∷ decimal 13 ∷ upper 16 ∷ [])
     ∷ keyword MEASUREMENT BYTE-ORDER object 19 (choice 20 MSB-FIRST MSB-LAST ∷ [])
     ∷ keyword MEASUREMENT BIT-MASK object 21 (whole 22 0 uint64 ∷ [])
     ∷ keyword MEASUREMENT ECU-ADDRESS object 27 (whole 5 0 ulong ∷ [])
@@ -72,8 +72,8 @@ rows =
     ∷ []
 
 -- "parameter or needed keyword missing": what each block needs by its end
-unfoldable pub needs : List Need
-needs =
+unfoldable pub needed : List Need
+needed =
     record { block = PROJECT; sec = file; when = 0; low = 0; high = 0; slot = 1; least = 1 }
     ∷ need COMPU-METHOD method 4 RAT-FUNC 5 1
     ∷ need COMPU-METHOD method 4 LINEAR 18 1
@@ -99,11 +99,16 @@ rowsFrom n (r ∷ rs) =
     (r .parent ∷ r .word ∷ r .opens ∷ r .sec ∷ r .once ∷ r .when ∷ r .low ∷ r .high ∷ r .adds ∷ startOf n (r .params) ∷ [])
     ∷ rowsFrom (n + length (r .params)) rs
 
--- kind, slot, low, high, the number of the next parameter, the section of the record that it goes to
+-- kind, slot, the number of the next parameter, the section of the record that it goes to
 abbrev pub paramsFrom : ℕ → ℕ → List Param → List (List ℕ)
 paramsFrom n j [] = []
-paramsFrom n j (p ∷ []) = (p .kind ∷ p .slot ∷ p .low ∷ p .high ∷ 0 ∷ j ∷ []) ∷ []
-paramsFrom n j (p ∷ (q ∷ ps)) = (p .kind ∷ p .slot ∷ p .low ∷ p .high ∷ suc n ∷ j ∷ []) ∷ paramsFrom (suc n) j (q ∷ ps)
+paramsFrom n j (p ∷ []) = (p .kind ∷ p .slot ∷ 0 ∷ j ∷ []) ∷ []
+paramsFrom n j (p ∷ (q ∷ ps)) = (p .kind ∷ p .slot ∷ suc n ∷ j ∷ []) ∷ paramsFrom (suc n) j (q ∷ ps)
+
+-- the least and the greatest number or choice
+abbrev pub limitsFrom : List Param → List (List ℕ)
+limitsFrom [] = []
+limitsFrom (p ∷ ps) = (p .low ∷ p .high ∷ []) ∷ limitsFrom ps
 
 -- a block that adds a record as it opens keeps its parameters there
 abbrev pub keeps : Row → ℕ
@@ -117,7 +122,14 @@ unfoldable pub rowCells : List (List ℕ)
 rowCells = rowsFrom 1 rows
 
 unfoldable pub paramCells : List (List ℕ)
-paramCells = (0 ∷ 0 ∷ 0 ∷ 0 ∷ 0 ∷ 0 ∷ []) ∷ allParams 1 rows
+paramCells = (0 ∷ 0 ∷ 0 ∷ 0 ∷ []) ∷ allParams 1 rows
+
+abbrev pub allLimits : List Row → List (List ℕ)
+allLimits [] = []
+allLimits (r ∷ rs) = limitsFrom (r .params) ++ allLimits rs
+
+unfoldable pub limitCells : List (List ℕ)
+limitCells = (0 ∷ 0 ∷ []) ∷ allLimits rows
 
 -- block, section, when, low, high, slot, least
 abbrev pub needsFrom : List Need → List (List ℕ)
@@ -125,14 +137,17 @@ needsFrom [] = []
 needsFrom (n ∷ ns) = (n .block ∷ n .sec ∷ n .when ∷ n .low ∷ n .high ∷ n .slot ∷ n .least ∷ []) ∷ needsFrom ns
 
 unfoldable pub needCells : List (List ℕ)
-needCells = needsFrom needs
+needCells = needsFrom needed
 
--- number f of row i, of parameter p, of need i
+-- number f of row i, of parameter p, of its limits, of need i
 unfoldable pub rowCell : ℕ → ℕ → ℕ
 rowCell i f = getD (getD rowCells i []) f 0
 
 unfoldable pub paramCell : ℕ → ℕ → ℕ
 paramCell p f = getD (getD paramCells p []) f 0
+
+unfoldable pub limitCell : ℕ → ℕ → ℕ
+limitCell p f = getD (getD limitCells p []) f 0
 
 unfoldable pub needCell : ℕ → ℕ → ℕ
 needCell i f = getD (getD needCells i []) f 0

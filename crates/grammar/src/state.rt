@@ -3,8 +3,11 @@ use text::cursor::Cursor;
 
 // Where a keyword, the word after `/begin`, the word after `/end`, or nothing more is expected.
 pub const ITEMS: u8 = 0;
+
 pub const BEGUN: u8 = 1;
+
 pub const ENDED: u8 = 2;
+
 pub const OVER: u8 = 3;
 
 // The mode, the code of the open block's word, the number of the next parameter (0: none), how many pairs are left.
@@ -35,5 +38,8 @@ pub enum Move {
         act: Act,
     },
     Over,
-    Refused { no: u8, place: usize },
+    Refused {
+        no: u8,
+        place: usize,
+    },
 }

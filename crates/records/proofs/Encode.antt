@@ -242,12 +242,12 @@ module _ (ss : List Sec) (n : ℕ) (d : List (List (List ℕ))) (g : Good ss d) 
   good-put i k v =
       fit-set ss d j _ g (by-place (ltb i (length r)) refl)
       (rw (length-set r i (set (getD r i []) k v)) (fit-few ss d j g)) where
-    r : List (List ℕ)
-    r = getD d j []
+        r : List (List ℕ)
+        r = getD d j []
 
-    by-place : (t : Bool) → ltb i (length r) ≡ t → Wide (widthOf ss j) (set r i (set (getD r i []) k v))
-    by-place true t = wide-set (widthOf ss j) r i _ (length-set (getD r i []) k v ∙ wide-at (widthOf ss j) r i (fit-wide ss d j g) (ltb-true i (length r) t)) (fit-wide ss d j g)
-    by-place false t = rw (set-out r i (set (getD r i []) k v) (ltb-false i (length r) t)) (fit-wide ss d j g)
+        by-place : (t : Bool) → ltb i (length r) ≡ t → Wide (widthOf ss j) (set r i (set (getD r i []) k v))
+        by-place true t = wide-set (widthOf ss j) r i _ (length-set (getD r i []) k v ∙ wide-at (widthOf ss j) r i (fit-wide ss d j g) (ltb-true i (length r) t)) (fit-wide ss d j g)
+        by-place false t = rw (set-out r i (set (getD r i []) k v) (ltb-false i (length r) t)) (fit-wide ss d j g)
 
   part-add : length (getD d j []) < mostOf ss j
       → set (part (getD ss j noSec) (getD d j [])) 0 (length (getD d j []) + 1) ≡ part (getD ss j noSec) (getD d j [] ++ (replicate (widthOf ss j) 0 ∷ []))

@@ -38,7 +38,7 @@ pub fn clear(t: &mut [u64])
 }
 
 // Where number k of record i stands.
-fn place_of(c: Section, i: u16, k: u8) -> usize
+fn place_of(c: Section, i: u16, k: u16) -> usize
     ensures { λ r. ⌜ r ≡ place c i k ⌝ }
 {
     (c.base as usize) + (1 + (c.width as usize) * (i as usize) + (k as usize))
@@ -56,20 +56,20 @@ pub fn count(t: &[u64], c: Section) -> u16
 }
 
 // Number k of record i.
-pub fn slot(t: &[u64], c: Section, i: u16, k: u8) -> u64
+pub fn slot(t: &[u64], c: Section, i: u16, k: u16) -> u64
     ensures { λ r. ⌜ r ≡ slotIn (now (t .entry)) c i k ⌝ }
 {
-    if (i < c.most) & (k < c.width) {
+    if (i < c.most) & (k < (c.width as u16)) {
         return get(t, place_of(c, i, k));
     }
     0
 }
 
 // Sets number k of record i.
-pub fn put(t: &mut [u64], c: Section, i: u16, k: u8, v: u64)
+pub fn put(t: &mut [u64], c: Section, i: u16, k: u16, v: u64)
     ensures { λ _. ⌜ now (t .exit) ≡ putIn (now (t .entry)) c i k v ⌝ }
 {
-    if (i < count(t, c)) & (k < c.width) {
+    if (i < count(t, c)) & (k < (c.width as u16)) {
         set(t, place_of(c, i, k), v);
     }
 }

@@ -8,6 +8,7 @@ put-spec =
     tie.close
     (tie.spec
     (λ c κs. search ops)
+    (λ c. search ops)
     (λ c κs. search ops)
     (λ c κs. search ops)
     (λ c. search ops)

@@ -1,0 +1,16 @@
+use borrow.Author.Needs.{needs}
+use mathlib.Core.Path.{refl}
+use Rattle.grammar.specs.Rows.{limitCell, limitCells, rows}
+use Rattle.grammar.proofs.rows.limit_cell.Statement.{statement}
+use Rattle.grammar.proofs.rows.limit_cell.Tie as tie
+use Rattle.grammar.proofs.TableLaws.{tables}
+
+-- src/rows.rt:205:13
+returns : tie.Need-returns
+unfolding limitCell limitCells rows
+returns c = refl
+
+pub limit-cell-spec : {M : Type 1} → statement M
+limit-cell-spec =
+    tie.close
+    (tie.spec (λ c. search tables) (λ c. search tables) (λ c. search tables) (λ c. search tables) returns (λ c. search tables) (λ c. search tables))

@@ -20,10 +20,14 @@ use number::whole::WholeAnswer;
 use text::cursor::Cursor;
 use words::class::Class;
 ghost use mathlib.Core.Path.{_≡_};
+ghost use mathlib.Core.Bool.{_||_};
+ghost use Prim.Native.Nat.{_-_, _<_, _^_, min};
+ghost use lib.Dec.{eqb};
+ghost use Rattle.convert.specs.Limit.{atMost};
 ghost use Rattle.number.specs.Told.{scaled};
 ghost use Rattle.words.specs.Told.{toldClass};
-ghost use Rattle.grammar.specs.Move.{viewIn, idle, writes, went, moved};
-ghost use Rattle.grammar.specs.Parameter.{wrong, after, keeping, signOf, takenWhole, takenPairs, decimalIn, hasEntry, twice, newRecord, takenEntry, takenDecimal, takenNumber, takenNew, ofChoice, takenName, takenText, taken};
+ghost use Rattle.grammar.specs.Move.{viewIn, state, idle, writes, went, moved};
+ghost use Rattle.grammar.specs.Parameter.{secOf, slotOf, wrong, after, keeping, signOf, takenWhole, takenPairs, decimalIn, hasEntry, twice, newRecord, takenEntry, takenDecimal, takenNumber, takenNew, ofChoice, takenName, takenText, taken};
 
 // The kinds of a piece.
 pub const NAME: u8 = 0;
@@ -31,6 +35,22 @@ pub const TEXT: u8 = 1;
 pub const NUMBER: u8 = 2;
 pub const BEGIN: u8 = 4;
 pub const END: u8 = 5;
+
+// The most points on one axis, and the most verbal entries.
+const MOST_POINTS: u64 = 256;
+const MOST_ENTRIES: u16 = 1024;
+
+// What is expected next.
+pub fn state_of(mode: u8, block: u8, param: u8, left: u16) -> State
+    ensures { λ r. ⌜ r ≡ state mode block param left ⌝ }
+{
+    State {
+        mode,
+        block,
+        param,
+        left,
+    }
+}
 
 // On to a place, with what is expected there and what is written.
 pub fn go(next: usize, state: State, act: Act) -> Move
@@ -102,4 +122,156 @@ fn kept(s: State, many: u8, x: u64, y: u64, z: u64) -> Act
         c: z,
         d: 0,
     }
+}
+
+// Whether a number may be an alignment.
+fn is_alignment(n: u64) -> bool
+    ensures { λ r. ⌜ r ≡ (eqb n 1 || eqb n 2 || eqb n 4 || eqb n 8) ⌝ }
+{
+    (n == 1) | (n == 2) | (n == 4) | (n == 8)
+}
+
+// A whole number in its parameter's place.
+fn taken_whole(s: State, a: usize, e: usize, n: u64) -> Move
+    ensures { λ r. ⌜ moved r ≡ takenWhole s a e n ⌝ }
+{
+    let kind = param_cell(s.param, 0);
+    if n < limit_cell(s.param, 0) {
+        return Move::Refused { no: 2, place: a };
+    }
+    if (kind == 7) & (MOST_POINTS < n) {
+        return Move::Refused { no: 8, place: a };
+    }
+    if (kind == 8) & !is_alignment(n) {
+        return Move::Refused { no: 2, place: a };
+    }
+    go(e, after_of(s), kept(s, 1, n, 0, 0))
+}
+
+// How many pairs follow.
+fn taken_pairs(s: State, e: usize, n: u64) -> Move
+    requires { ⌜ n < 2 ^ 16 ⌝ }
+    ensures { λ r. ⌜ moved r ≡ takenPairs s e n ⌝ }
+{
+    let block = s.block;
+    if n == 0 {
+        return go(e, state_of(ITEMS, block, 0, 0), kept(s, 1, n, 0, 0));
+    }
+    go(
+        e,
+        state_of(ITEMS, block, param_cell(s.param, 2), n as u16),
+        kept(s, 1, n, 0, 0),
+    )
+}
+
+// The sign of a decimal as a number.
+fn sign_of(d: Decimal) -> u64
+    ensures { λ r. ⌜ r ≡ signOf (scaled d) ⌝ }
+{
+    if d.negative { 1 } else { 0 }
+}
+
+// The slot three before another.
+fn three_before(k: u8) -> u16
+    ensures { λ r. ⌜ r ≡ k - 3 ⌝ }
+{
+    if k < 3 { 0 } else { (k as u16) - 3 }
+}
+
+// At most 7, as a power of ten.
+fn power_of(n: u64) -> u32
+    ensures { λ r. ⌜ r ≡ min n 7 ⌝ }
+{
+    if n < 7 { n as u32 } else { 7 }
+}
+
+// The decimal in three slots of the current record of section j.
+fn decimal_at(t: &[u64], j: u8, k: u16) -> Decimal
+    requires { ⌜ k < 256 ⌝ }
+    ensures { λ r. ⌜ scaled r ≡ decimalIn (viewIn (now (t .entry))) j k ⌝ }
+{
+    let sign = current_of(t, j, k);
+    let whole = current_of(t, j, k + 1);
+    let power = current_of(t, j, k + 2);
+    Decimal {
+        negative: sign == 1,
+        whole,
+        tens: power_of(power),
+    }
+}
+
+// Whether an entry of the current table has a number.
+fn has_number(t: &[u64], sign: u64, size: u64) -> bool
+    ensures { λ r. ⌜ r ≡ twice (viewIn (now (t .entry))) sign size ⌝ }
+{
+    let count = count_of(t, ENTRY) as u64;
+    let mut i = current_of(t, TABLE, 2);
+    while i < count {
+        let k = i as u16;
+        if (slot_of(t, ENTRY, k, 0) == sign) & (slot_of(t, ENTRY, k, 1) == size) {
+            return true;
+        }
+        i += 1;
+    }
+    false
+}
+
+// A new record with its first numbers.
+fn record_of(j: u8, many: u8, a: u64, b: u64, c: u64, d: u64) -> Act
+    ensures { λ r. ⌜ r ≡ newRecord j many a b c d ⌝ }
+{
+    Act {
+        adds: j,
+        sec: j,
+        slot: 0,
+        many,
+        a,
+        b,
+        c,
+        d,
+    }
+}
+
+// The number of a pair.
+fn taken_entry(t: &[u64], s: State, a: usize, e: usize, d: Decimal) -> Move
+    ensures { λ r. ⌜ moved r ≡ takenEntry (viewIn (now (t .entry))) s a e (scaled d) ⌝ }
+{
+    if d.tens != 0 {
+        return Move::Refused { no: 2, place: a };
+    }
+    let sign = sign_of(d);
+    let whole = d.whole;
+    if has_number(t, sign, whole) {
+        return Move::Refused { no: 6, place: a };
+    }
+    if MOST_ENTRIES <= count_of(t, ENTRY) {
+        return Move::Refused { no: 8, place: a };
+    }
+    go(e, after_of(s), record_of(ENTRY, 2, sign, whole, 0, 0))
+}
+
+// Whether a lower limit that was read is at most an upper one.
+fn is_upper(t: &[u64], s: State, d: Decimal) -> bool
+    ensures { λ r. ⌜ r ≡ atMost (decimalIn (viewIn (now (t .entry))) (secOf s) (slotOf s - 3)) (scaled d) ⌝ }
+{
+    let k = three_before(param_cell(s.param, 1));
+    convert::limit::at_most(decimal_at(t, param_cell(s.param, 3), k), d)
+}
+
+// A decimal in its parameter's place.
+fn taken_decimal(t: &[u64], s: State, a: usize, e: usize, d: Decimal) -> Move
+    ensures { λ r. ⌜ moved r ≡ takenDecimal (viewIn (now (t .entry))) s a e (scaled d) ⌝ }
+{
+    let kind = param_cell(s.param, 0);
+    if kind == 12 {
+        return taken_entry(t, s, a, e, d);
+    }
+    if (kind == 9) & (d.whole != 0) {
+        return Move::Refused { no: 9, place: a };
+    }
+    if (kind == 10) & !is_upper(t, s, d) {
+        return Move::Refused { no: 5, place: a };
+    }
+    let sign = sign_of(d);
+    go(e, after_of(s), kept(s, 3, sign, d.whole, d.tens as u64))
 }

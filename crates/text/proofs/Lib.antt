@@ -7,3 +7,5 @@ pub mod ItemLaws
 pub mod Pieces
 pub mod SkipWithin
 pub mod SkipLaws
+pub mod Local
+pub mod Examples

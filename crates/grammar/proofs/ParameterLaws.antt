@@ -8,19 +8,34 @@ use borrow.Author.Needs.{needs}
 use borrow.Author.Tests.{lt-ltb, le-ltb, le-leb, lt-leb, eq-eqb, ne-eqb}
 use lib.Dec.{ltb, leb, eqb}
 use Rattle.text.proofs.ByteLaws.{via}
-use Rattle.number.specs.Decimal.{Scaled}
+use Rattle.number.specs.Decimal.{Scaled, decimalOf}
 use Rattle.number.specs.Form.{hasForm}
-use Rattle.number.specs.Told.{scaled}
+use Rattle.number.specs.Answer.{inRun}
+use Rattle.number.specs.Whole.{wholeOf}
+use Rattle.number.specs.Told.{scaled, toldWhole, toldDecimal}
+use Rattle.number.specs.declared.whole.WholeAnswer.{WholeAnswer}
+use Rattle.number.specs.declared.whole.WholeAnswer.the-variants as whole
+use Rattle.number.specs.declared.decimal.DecimalAnswer.{DecimalAnswer}
+use Rattle.number.specs.declared.decimal.DecimalAnswer.the-variants as decimal
+use Rattle.words.specs.Kind as word
+use Rattle.words.specs.Class.{classAt}
+use Rattle.words.specs.Told.{toldClass}
+use Rattle.words.specs.declared.class.Class.{Class}
+use Rattle.words.specs.declared.class.Class.the-variants as class
 use Rattle.number.specs.declared.decimal.Decimal.{Decimal}
 use Rattle.convert.specs.Limit.{atMost}
 use Rattle.records.specs.Records.{mostOf}
+use Rattle.records.specs.Cells.{sectionIn, countIn}
+use Rattle.records.specs.declared.Section.{Section}
 use Rattle.grammar.specs.Sections.{sections, entry}
 use Rattle.grammar.specs.Rows.{paramCell, limitCell}
 use Rattle.grammar.specs.Move.{View, current, state, items, idle, writes, Move, went, refused, moved}
-use Rattle.grammar.specs.Parameter.{wrong, kindOf, slotOf, nextOf, secOf, lowOf, highOf, after, keeping, takenWhole, takenPairs, signOf, decimalIn, hasEntry, twice, newRecord, takenEntry, takenDecimal}
+use Rattle.grammar.specs.Parameter.{wrong, kindOf, slotOf, nextOf, secOf, lowOf, highOf, after, keeping, takenWhole, takenPairs, signOf, decimalIn, hasEntry, twice, newRecord, takenEntry, takenDecimal, ofNumber, ofPairs, ofWhole, ofDecimal, takenNumber, foundAt, find, takenNew, ofChoice, takenName, afterText, takenText, taken}
 use Rattle.grammar.specs.declared.state.State.{State}
 use Rattle.grammar.specs.declared.state.Act.{Act}
 use Rattle.grammar.specs.declared.state.Move as code
+use Rattle.grammar.specs.declared.names.Found.{Found}
+use Rattle.grammar.specs.declared.names.Found.the-variants as found
 
 pub after-is : (s : State) (p : ℕ) → p ≡ nextOf s → state 0 (s .block) p (s .left) ≡ after s
 after-is s p q = rw q
@@ -80,9 +95,9 @@ module _ (s : State) (e n : ℕ) (m : code.Move) (st : State) (act : Act) (p : m
   unfolding takenPairs
   pairs-none h x = rw (eq-eqb n 0 h, p, x, y)
 
-  pub pairs-some : (k : ℕ) → (n ≡ 0 → ⊥) → k ≡ nextOf s → st ≡ state items (s .block) k n → moved m ≡ takenPairs s e n
+  pub pairs-some : (k l : ℕ) → (n ≡ 0 → ⊥) → k ≡ nextOf s → l ≡ min n 65535 → st ≡ state items (s .block) k l → moved m ≡ takenPairs s e n
   unfolding takenPairs
-  pairs-some k h q x = rw (ne-eqb n 0 h, p, x, y, q)
+  pairs-some k l h q z x = rw (ne-eqb n 0 h, p, x, y, q, z)
 
 pub ruleset pairings = (pairs-none, pairs-some, needs)
 
@@ -171,3 +186,183 @@ module _ (v : View) (s : State) (a e : ℕ) (d : Decimal) (kind : ℕ) (pk : kin
       decimal-kept m sign st act u ps p x y = rw (← pk, ne-eqb kind 12 h, q, ← pb, u, p, x, y, ps)
 
 pub ruleset decimal-takes = (decimal-entry, decimal-nought, decimal-below, decimal-kept, needs)
+
+-- ---- a number that was read
+
+module _ (x : List ℕ) (s : State) (a e h : ℕ) (ph : h ≡ highOf s) (r : WholeAnswer) (p : toldWhole r ≡ inRun (wholeOf h) x a e) where
+  whole-read : (w : WholeAnswer) → r ≡ w → inRun (wholeOf (highOf s)) x a e ≡ toldWhole w
+  whole-read w y = rw (← ph) (sym p ∙ ap toldWhole y)
+
+  pub pairs-read : (n : ℕ) (m : code.Move) → r ≡ whole.Number n → moved m ≡ takenPairs s e n → moved m ≡ ofPairs x s a e
+  pairs-read n m y q = q ∙ ap (λ z. ofNumber a z (takenPairs s e)) (sym (whole-read (whole.Number n) y))
+
+  pub pairs-unread : (k : ℕ) → r ≡ whole.Refused k → refused k a ≡ ofPairs x s a e
+  pairs-unread k y = ap (λ z. ofNumber a z (takenPairs s e)) (sym (whole-read (whole.Refused k) y))
+
+  pub wholes-read : (n : ℕ) (m : code.Move) → r ≡ whole.Number n → moved m ≡ takenWhole s a e n → moved m ≡ ofWhole x s a e
+  wholes-read n m y q = q ∙ ap (λ z. ofNumber a z (takenWhole s a e)) (sym (whole-read (whole.Number n) y))
+
+  pub wholes-unread : (k : ℕ) → r ≡ whole.Refused k → refused k a ≡ ofWhole x s a e
+  wholes-unread k y = ap (λ z. ofNumber a z (takenWhole s a e)) (sym (whole-read (whole.Refused k) y))
+
+module _ (x : List ℕ) (v : View) (s : State) (a e : ℕ) (r : DecimalAnswer) (p : toldDecimal r ≡ inRun decimalOf x a e) where
+  pub decimals-read : (d : Decimal) (m : code.Move) → r ≡ decimal.Number d → moved m ≡ takenDecimal v s a e (scaled d) → moved m ≡ ofDecimal x v s a e
+  decimals-read d m y q = q ∙ ap (λ z. ofNumber a z (takenDecimal v s a e)) (sym (ap toldDecimal y) ∙ p)
+
+  pub decimals-unread : (k : ℕ) → r ≡ decimal.Refused k → refused k a ≡ ofDecimal x v s a e
+  decimals-unread k y = ap (λ z. ofNumber a z (takenDecimal v s a e)) (sym (ap toldDecimal y) ∙ p)
+
+pub ruleset reads = (pairs-read, pairs-unread, wholes-read, wholes-unread, decimals-read, decimals-unread, needs)
+
+module _ (x : List ℕ) (v : View) (s : State) (a e kind : ℕ) (pk : kind ≡ kindOf s) (m : code.Move) where
+  pub number-pairs : kind ≡ 11 → moved m ≡ ofPairs x s a e → moved m ≡ takenNumber x v s a e
+  unfolding takenNumber
+  number-pairs h p = rw (← pk, eq-eqb kind 11 h, p)
+
+  pub number-whole : (kind ≡ 11 → ⊥) → (eqb kind 3 || eqb kind 7 || eqb kind 8) ≡ true → moved m ≡ ofWhole x s a e → moved m ≡ takenNumber x v s a e
+  unfolding takenNumber
+  number-whole h q p = rw (← pk, ne-eqb kind 11 h, q, p)
+
+  pub number-decimal : (kind ≡ 11 → ⊥) → (eqb kind 3 || eqb kind 7 || eqb kind 8) ≡ false → moved m ≡ ofDecimal x v s a e → moved m ≡ takenNumber x v s a e
+  unfolding takenNumber
+  number-decimal h q p = rw (← pk, ne-eqb kind 11 h, q, p)
+
+  pub name-new : kind ≡ 6 → moved m ≡ takenNew x v s a e → moved m ≡ takenName x v s a e
+  unfolding takenName
+  name-new h p = rw (← pk, eq-eqb kind 6 h, p)
+
+  pub name-choice : (kind ≡ 6 → ⊥) → kind ≡ 5 → moved m ≡ ofChoice s a e (classAt x a e) → moved m ≡ takenName x v s a e
+  unfolding takenName
+  name-choice h g p = rw (← pk, ne-eqb kind 6 h, eq-eqb kind 5 g, p)
+
+  pub name-kept : (st : State) (act : Act) → (kind ≡ 6 → ⊥) → (kind ≡ 5 → ⊥) → moved m ≡ went e st act → st ≡ after s → act ≡ keeping s 2 a e 0 → moved m ≡ takenName x v s a e
+  unfolding takenName
+  name-kept st act h g p u w = rw (← pk, ne-eqb kind 6 h, ne-eqb kind 5 g, p, u, w)
+
+pub ruleset number-takes = (number-pairs, number-whole, number-decimal, needs)
+
+pub ruleset name-takes = (name-new, name-choice, name-kept, needs)
+
+-- ---- names
+
+-- f is what `find` gave
+module _ (x : List ℕ) (v : View) (s : State) (a e j : ℕ) (pj : j ≡ secOf s) (f : Found) (pf : foundAt f ≡ find x v j a e) where
+  pub new-twice : (i : ℕ) → f ≡ found.At i → refused 6 a ≡ takenNew x v s a e
+  unfolding takenNew
+  new-twice i y = let z : find x v j a e ≡ suc i = sym pf ∙ ap foundAt y in rw (← pj, z, ne-eqb (suc i) 0 (λ h. omega arith))
+
+  -- c is the section, n how many records it has
+  module _ (y : f ≡ found.Nothing) (c : Section) (pc : c ≡ sectionIn sections j) (n : ℕ) (pn : n ≡ v .counts j) where
+    none : find x v j a e ≡ 0
+    none = sym pf ∙ ap foundAt y
+
+    most : mostOf sections j ≡ c .most
+    most = ap (λ (z : Section). z .most) (sym pc)
+
+    pub new-full : c .most ≤ n → refused 8 a ≡ takenNew x v s a e
+    unfolding takenNew
+    new-full h = rw (← pj, none, most, ← pn, le-leb (c .most) n h)
+
+    pub new-made : (m : code.Move) → n < c .most → moved m ≡ went e (after s) (newRecord j 4 a e (v .counts (slotOf s)) (s .block)) → moved m ≡ takenNew x v s a e
+    unfolding takenNew
+    new-made m h p = rw (← pj, none, most, ← pn, lt-leb (c .most) n h, p)
+
+pub made-is : (t : List ℕ) (s : State) (a e j k held : ℕ) (m : code.Move) (st : State) (act : Act) → k ≡ slotOf s → held ≡ countIn t (sectionIn sections k) → moved m ≡ went e st act → st ≡ after s → act ≡ newRecord j 4 a e held (s .block)
+    → moved m ≡ went e (after s) (newRecord j 4 a e (countIn t (sectionIn sections (slotOf s))) (s .block))
+made-is t s a e j k held m st act pk ph p u w = rw (p, u, w, ph, pk)
+
+pub ruleset makes = (made-is, needs)
+
+pub ruleset news = (new-twice, new-full, new-made, needs)
+
+module _ (s : State) (a e c l h : ℕ) (pl : l ≡ lowOf s) (ph : h ≡ highOf s) where
+  pub choice-kept : (m : code.Move) (st : State) (act : Act) → (leb l c && leb c h) ≡ true → moved m ≡ went e st act → st ≡ after s → act ≡ keeping s 1 c 0 0 → moved m ≡ ofChoice s a e (word.takenChoice c)
+  choice-kept m st act q p u w = rw (← pl, ← ph, q, p, u, w)
+
+  pub choice-other : (leb l c && leb c h) ≡ false → refused 5 a ≡ ofChoice s a e (word.takenChoice c)
+  choice-other q = rw (← pl, ← ph, q)
+
+pub ruleset chosens = (choice-kept, choice-other, needs)
+
+-- r is what `class_of` gave, by its cases v
+module _ (x : List ℕ) (s : State) (a e : ℕ) (r : Class) (p : toldClass r ≡ classAt x a e) where
+  class-is : (v : Class) → r ≡ v → ofChoice s a e (toldClass v) ≡ ofChoice s a e (classAt x a e)
+  class-is v y = ap (ofChoice s a e) (sym (ap toldClass y) ∙ p)
+
+  pub class-choice : (c : ℕ) (m : code.Move) → r ≡ class.TakenChoice c → moved m ≡ ofChoice s a e (word.takenChoice c) → moved m ≡ ofChoice s a e (classAt x a e)
+  class-choice c m y q = q ∙ class-is (class.TakenChoice c) y
+
+  pub class-block : (c : ℕ) → r ≡ class.TakenBlock c → refused 5 a ≡ ofChoice s a e (classAt x a e)
+  class-block c = class-is (class.TakenBlock c)
+
+  pub class-plain : (c : ℕ) → r ≡ class.TakenPlain c → refused 5 a ≡ ofChoice s a e (classAt x a e)
+  class-plain c = class-is (class.TakenPlain c)
+
+  pub class-skipped : (c : ℕ) → r ≡ class.SkippedBlock c → refused 5 a ≡ ofChoice s a e (classAt x a e)
+  class-skipped c = class-is (class.SkippedBlock c)
+
+  pub class-passed : (c : ℕ) → r ≡ class.SkippedPlain c → refused 5 a ≡ ofChoice s a e (classAt x a e)
+  class-passed c = class-is (class.SkippedPlain c)
+
+  pub class-listed : r ≡ class.ListedOnly → refused 9 a ≡ ofChoice s a e (classAt x a e)
+  class-listed = class-is class.ListedOnly
+
+  pub class-unlisted : r ≡ class.Unlisted → refused 4 a ≡ ofChoice s a e (classAt x a e)
+  class-unlisted = class-is class.Unlisted
+
+pub ruleset choices = (class-choice, class-block, class-plain, class-skipped, class-passed, class-listed, class-unlisted, needs)
+
+-- ---- texts
+
+module _ (s : State) where
+  pub text-more : (b : ℕ) (r : State) → 1 < s .left → b ≡ s .param - 1 → r ≡ state items (s .block) b (s .left - 1) → r ≡ afterText s
+  text-more b r h p q = rw (lt-ltb 1 (s .left) h, q, p)
+
+  pub text-last : (r : State) → s .left ≤ 1 → r ≡ state items (s .block) 0 0 → r ≡ afterText s
+  text-last r h q = rw (le-ltb 1 (s .left) h, q)
+
+  module _ (a e kind : ℕ) (pk : kind ≡ kindOf s) (m : code.Move) (st : State) (act : Act) (p : moved m ≡ went e st act) where
+    pub text-pair : kind ≡ 13 → st ≡ afterText s → act ≡ writes entry 2 2 a e 0 → moved m ≡ takenText s a e
+    unfolding takenText
+    text-pair h u w = rw (← pk, eq-eqb kind 13 h, p, u, w)
+
+    pub text-kept : (kind ≡ 13 → ⊥) → st ≡ after s → act ≡ keeping s 2 a e 0 → moved m ≡ takenText s a e
+    unfolding takenText
+    text-kept h u w = rw (← pk, ne-eqb kind 13 h, p, u, w)
+
+pub ruleset text-states = (text-more, text-last, needs)
+
+pub ruleset texts = (text-pair, text-kept, needs)
+
+-- ---- any piece
+
+module _ (x : List ℕ) (v : View) (s : State) (k a e kind : ℕ) (pk : kind ≡ kindOf s) where
+  module _ (m : code.Move) (q : (eqb kind 2 || eqb kind 13) ≡ true) where
+    pub taken-string : k ≡ 1 → moved m ≡ takenText s a e → moved m ≡ taken x v s k a e
+    unfolding taken
+    taken-string h p = rw (← pk, q, eq-eqb k 1 h, p)
+
+    pub taken-no-string : (k ≡ 1 → ⊥) → moved m ≡ wrong 5 x k a e → moved m ≡ taken x v s k a e
+    unfolding taken
+    taken-no-string h p = rw (← pk, q, ne-eqb k 1 h, p)
+
+  module _ (q : (eqb kind 2 || eqb kind 13) ≡ false) where
+    module _ (m : code.Move) (u : (eqb kind 1 || eqb kind 5 || eqb kind 6) ≡ true) where
+      pub taken-word : k ≡ 0 → moved m ≡ takenName x v s a e → moved m ≡ taken x v s k a e
+      unfolding taken
+      taken-word h p = rw (← pk, q, u, eq-eqb k 0 h, p)
+
+      pub taken-no-word : (k ≡ 0 → ⊥) → moved m ≡ wrong 5 x k a e → moved m ≡ taken x v s k a e
+      unfolding taken
+      taken-no-word h p = rw (← pk, q, u, ne-eqb k 0 h, p)
+
+    module _ (u : (eqb kind 1 || eqb kind 5 || eqb kind 6) ≡ false) where
+      pub taken-digits : (m : code.Move) → k ≡ 2 → moved m ≡ takenNumber x v s a e → moved m ≡ taken x v s k a e
+      unfolding taken
+      taken-digits m h p = rw (← pk, q, u, eq-eqb k 2 h, p)
+
+      pub taken-no-digits : (k ≡ 2 → ⊥) → refused 5 a ≡ taken x v s k a e
+      unfolding taken
+      taken-no-digits h = rw (← pk, q, u, ne-eqb k 2 h)
+
+pub ruleset takes = (taken-string, taken-no-string, taken-word, taken-no-word, taken-digits, taken-no-digits, needs)

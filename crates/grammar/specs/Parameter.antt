@@ -84,11 +84,11 @@ takenWhole s a e n =
     (cond (eqb (kindOf s) 8 && not (eqb n 1 || eqb n 2 || eqb n 4 || eqb n 8)) (refused 2 a)
     (went e (after s) (keeping s 1 n 0 0))))
 
--- how many pairs follow; none: the block's keywords are next
+-- how many pairs follow, at most 65535; none: the block's keywords are next
 unfoldable pub takenPairs : State → ℕ → ℕ → Move
 takenPairs s e n =
     cond (eqb n 0) (went e (state items (s .block) 0 0) (keeping s 1 n 0 0))
-    (went e (state items (s .block) (nextOf s) n) (keeping s 1 n 0 0))
+    (went e (state items (s .block) (nextOf s) (min n 65535)) (keeping s 1 n 0 0))
 
 -- ---- decimals
 
@@ -131,11 +131,20 @@ ofNumber a (given n) f = f n
 ofNumber a (number.refused k) f = refused k a
 
 -- whole numbers are kinds 3, 7, 8 and 11, decimals 4, 9, 10 and 12
+abbrev pub ofPairs : List ℕ → State → ℕ → ℕ → Move
+ofPairs x s a e = ofNumber a (inRun (wholeOf (highOf s)) x a e) (takenPairs s e)
+
+abbrev pub ofWhole : List ℕ → State → ℕ → ℕ → Move
+ofWhole x s a e = ofNumber a (inRun (wholeOf (highOf s)) x a e) (takenWhole s a e)
+
+abbrev pub ofDecimal : List ℕ → View → State → ℕ → ℕ → Move
+ofDecimal x v s a e = ofNumber a (inRun decimalOf x a e) (takenDecimal v s a e)
+
 unfoldable pub takenNumber : List ℕ → View → State → ℕ → ℕ → Move
 takenNumber x v s a e =
-    cond (eqb (kindOf s) 11) (ofNumber a (inRun (wholeOf (highOf s)) x a e) (takenPairs s e))
-    (cond (eqb (kindOf s) 3 || eqb (kindOf s) 7 || eqb (kindOf s) 8) (ofNumber a (inRun (wholeOf (highOf s)) x a e) (takenWhole s a e))
-    (ofNumber a (inRun decimalOf x a e) (takenDecimal v s a e)))
+    cond (eqb (kindOf s) 11) (ofPairs x s a e)
+    (cond (eqb (kindOf s) 3 || eqb (kindOf s) 7 || eqb (kindOf s) 8) (ofWhole x s a e)
+    (ofDecimal x v s a e))
 
 -- ---- names
 

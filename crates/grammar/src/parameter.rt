@@ -21,13 +21,14 @@ use text::cursor::Cursor;
 use words::class::Class;
 ghost use mathlib.Core.Path.{_≡_};
 ghost use mathlib.Core.Bool.{_||_};
-ghost use Prim.Native.Nat.{_-_, _<_, _^_, min};
+ghost use Prim.Native.Nat.{_-_, _<_, min};
 ghost use lib.Dec.{eqb};
 ghost use Rattle.convert.specs.Limit.{atMost};
 ghost use Rattle.number.specs.Told.{scaled};
-ghost use Rattle.words.specs.Told.{toldClass};
+ghost use Rattle.words.specs.Kind.{takenChoice};
+ghost use Rattle.words.specs.Class.{classAt};
 ghost use Rattle.grammar.specs.Move.{viewIn, state, idle, writes, went, moved};
-ghost use Rattle.grammar.specs.Parameter.{secOf, slotOf, wrong, after, keeping, signOf, takenWhole, takenPairs, decimalIn, hasEntry, twice, newRecord, takenEntry, takenDecimal, takenNumber, takenNew, ofChoice, takenName, takenText, taken};
+ghost use Rattle.grammar.specs.Parameter.{secOf, slotOf, wrong, after, keeping, signOf, takenWhole, takenPairs, decimalIn, hasEntry, twice, newRecord, takenEntry, takenDecimal, ofPairs, ofWhole, ofDecimal, takenNumber, takenNew, ofChoice, takenName, afterText, takenText, taken};
 
 // The kinds of a piece.
 pub const NAME: u8 = 0;
@@ -148,9 +149,15 @@ fn taken_whole(s: State, a: usize, e: usize, n: u64) -> Move
     go(e, after_of(s), kept(s, 1, n, 0, 0))
 }
 
+// How many pairs are left.
+fn pairs_left(n: u64) -> u16
+    ensures { λ r. ⌜ r ≡ min n 65535 ⌝ }
+{
+    if n < 65535 { n as u16 } else { 65535 }
+}
+
 // How many pairs follow.
 fn taken_pairs(s: State, e: usize, n: u64) -> Move
-    requires { ⌜ n < 2 ^ 16 ⌝ }
     ensures { λ r. ⌜ moved r ≡ takenPairs s e n ⌝ }
 {
     let block = s.block;
@@ -159,7 +166,7 @@ fn taken_pairs(s: State, e: usize, n: u64) -> Move
     }
     go(
         e,
-        state_of(ITEMS, block, param_cell(s.param, 2), n as u16),
+        state_of(ITEMS, block, param_cell(s.param, 2), pairs_left(n)),
         kept(s, 1, n, 0, 0),
     )
 }
@@ -274,4 +281,180 @@ fn taken_decimal(t: &[u64], s: State, a: usize, e: usize, d: Decimal) -> Move
     }
     let sign = sign_of(d);
     go(e, after_of(s), kept(s, 3, sign, d.whole, d.tens as u64))
+}
+
+// A number of pairs that was read.
+fn pairs_of(x: &[u8], s: State, a: usize, e: usize) -> Move
+    ensures { λ r. ⌜ moved r ≡ ofPairs (now (x .entry)) s a e ⌝ }
+{
+    match number::whole::whole_in(x, a, e, limit_cell(s.param, 1)) {
+        WholeAnswer::Number(n) => taken_pairs(s, e, n),
+        WholeAnswer::Refused { no } => Move::Refused { no, place: a },
+    }
+}
+
+// A whole number that was read.
+fn whole_of(x: &[u8], s: State, a: usize, e: usize) -> Move
+    ensures { λ r. ⌜ moved r ≡ ofWhole (now (x .entry)) s a e ⌝ }
+{
+    match number::whole::whole_in(x, a, e, limit_cell(s.param, 1)) {
+        WholeAnswer::Number(n) => taken_whole(s, a, e, n),
+        WholeAnswer::Refused { no } => Move::Refused { no, place: a },
+    }
+}
+
+// A decimal that was read.
+fn decimal_of(x: &[u8], t: &[u64], s: State, a: usize, e: usize) -> Move
+    ensures { λ r. ⌜ moved r ≡ ofDecimal (now (x .entry)) (viewIn (now (t .entry))) s a e ⌝ }
+{
+    match number::decimal::decimal_in(x, a, e) {
+        DecimalAnswer::Number(d) => taken_decimal(t, s, a, e, d),
+        DecimalAnswer::Refused { no } => Move::Refused { no, place: a },
+    }
+}
+
+// A number in its parameter's place.
+fn taken_number(x: &[u8], t: &[u64], s: State, a: usize, e: usize) -> Move
+    ensures { λ r. ⌜ moved r ≡ takenNumber (now (x .entry)) (viewIn (now (t .entry))) s a e ⌝ }
+{
+    let kind = param_cell(s.param, 0);
+    if kind == 11 {
+        return pairs_of(x, s, a, e);
+    }
+    if (kind == 3) | (kind == 7) | (kind == 8) {
+        return whole_of(x, s, a, e);
+    }
+    decimal_of(x, t, s, a, e)
+}
+
+// A new record of section j, with its name, how many records it may hold stand before, and its block's word.
+fn made(t: &[u64], s: State, a: usize, e: usize, j: u8) -> Move
+    ensures { λ r. ⌜ moved r ≡ went e (after s) (newRecord j 4 a e (viewIn (now (t .entry)) .counts (slotOf s)) (s .block)) ⌝ }
+{
+    let held = count_of(t, param_cell(s.param, 1)) as u64;
+    let act = record_of(j, 4, a as u64, e as u64, held, s.block as u64);
+    go(e, after_of(s), act)
+}
+
+// The name of a new record.
+fn taken_new(x: &[u8], t: &[u64], s: State, a: usize, e: usize) -> Move
+    ensures { λ r. ⌜ moved r ≡ takenNew (now (x .entry)) (viewIn (now (t .entry))) s a e ⌝ }
+{
+    let j = param_cell(s.param, 3);
+    let Found::Nothing = find(x, t, j, a, e) else {
+        return Move::Refused { no: 6, place: a };
+    };
+    let c = section_of(j);
+    if c.most <= count_of(t, j) {
+        return Move::Refused { no: 8, place: a };
+    }
+    made(t, s, a, e, j)
+}
+
+// A choice that document 01 takes.
+fn chosen(s: State, a: usize, e: usize, c: u8) -> Move
+    ensures { λ r. ⌜ moved r ≡ ofChoice s a e (takenChoice c) ⌝ }
+{
+    let n = c as u64;
+    if (limit_cell(s.param, 0) <= n) & (n <= limit_cell(s.param, 1)) {
+        return go(e, after_of(s), kept(s, 1, n, 0, 0));
+    }
+    Move::Refused { no: 5, place: a }
+}
+
+// A word where a choice is expected.
+fn choice_of(x: &[u8], s: State, a: usize, e: usize) -> Move
+    ensures { λ r. ⌜ moved r ≡ ofChoice s a e (classAt (now (x .entry)) a e) ⌝ }
+{
+    match words::class::class_of(x, a, e) {
+        Class::TakenChoice(c) => chosen(s, a, e, c),
+        Class::TakenBlock(_) => Move::Refused { no: 5, place: a },
+        Class::TakenPlain(_) => Move::Refused { no: 5, place: a },
+        Class::SkippedBlock(_) => Move::Refused { no: 5, place: a },
+        Class::SkippedPlain(_) => Move::Refused { no: 5, place: a },
+        Class::ListedOnly => Move::Refused { no: 9, place: a },
+        Class::Unlisted => Move::Refused { no: 4, place: a },
+    }
+}
+
+// A name in its parameter's place.
+fn taken_name(x: &[u8], t: &[u64], s: State, a: usize, e: usize) -> Move
+    ensures { λ r. ⌜ moved r ≡ takenName (now (x .entry)) (viewIn (now (t .entry))) s a e ⌝ }
+{
+    let kind = param_cell(s.param, 0);
+    if kind == 6 {
+        return taken_new(x, t, s, a, e);
+    }
+    if kind == 5 {
+        return choice_of(x, s, a, e);
+    }
+    go(e, after_of(s), kept(s, 2, a as u64, e as u64, 0))
+}
+
+// The number before n, 0 before 0.
+fn one_before(n: u8) -> u8
+    ensures { λ r. ⌜ r ≡ n - 1 ⌝ }
+{
+    if n == 0 { 0 } else { n - 1 }
+}
+
+// The state after a pair's text.
+fn after_text(s: State) -> State
+    ensures { λ r. ⌜ r ≡ afterText s ⌝ }
+{
+    let block = s.block;
+    let left = s.left;
+    if 1 < left {
+        return state_of(ITEMS, block, one_before(s.param), left - 1);
+    }
+    state_of(ITEMS, block, 0, 0)
+}
+
+// The text of a pair, into its entry.
+fn text_act(a: u64, e: u64) -> Act
+    ensures { λ r. ⌜ r ≡ writes 3 2 2 a e 0 ⌝ }
+{
+    Act {
+        adds: NONE,
+        sec: ENTRY,
+        slot: 2,
+        many: 2,
+        a,
+        b: e,
+        c: 0,
+        d: 0,
+    }
+}
+
+// A string in its parameter's place.
+fn taken_text(s: State, a: usize, e: usize) -> Move
+    ensures { λ r. ⌜ moved r ≡ takenText s a e ⌝ }
+{
+    if param_cell(s.param, 0) == 13 {
+        return go(e, after_text(s), text_act(a as u64, e as u64));
+    }
+    go(e, after_of(s), kept(s, 2, a as u64, e as u64, 0))
+}
+
+// A piece where a parameter is expected.
+pub fn taken(x: &[u8], t: &[u64], s: State, k: u8, a: usize, e: usize) -> Move
+    ensures { λ r. ⌜ moved r ≡ taken (now (x .entry)) (viewIn (now (t .entry))) s k a e ⌝ }
+{
+    let kind = param_cell(s.param, 0);
+    if (kind == 2) | (kind == 13) {
+        if k == TEXT {
+            return taken_text(s, a, e);
+        }
+        return refuse(5, x, k, a, e);
+    }
+    if (kind == 1) | (kind == 5) | (kind == 6) {
+        if k == NAME {
+            return taken_name(x, t, s, a, e);
+        }
+        return refuse(5, x, k, a, e);
+    }
+    if k == NUMBER {
+        return taken_number(x, t, s, a, e);
+    }
+    Move::Refused { no: 5, place: a }
 }

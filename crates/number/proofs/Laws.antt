@@ -145,3 +145,45 @@ pub lowest-least : (neg : Bool) (n t : ℕ) → 0 < (lowest neg n t) .tens → (
 unfolding lowest
 lowest-least neg n zero l z = omega arith
 lowest-least neg n (suc t) l z = least-turn neg n t (eqb (n % 10) 0) refl (lowest neg (n / 10) t) (lowest-least neg (n / 10) t) l z
+
+-- 2 is the only refusal
+module _ {A : Type 0} (k : ℕ) where
+  two : (t : Bool) (x : Answer A) → (refused k ≡ x → k ≡ 2) → refused k ≡ cond t x (refused 2) → k ≡ 2
+  two true x h q = h q
+  two false x h q = cc
+
+  not-given : (d : A) → refused k ≡ given d → k ≡ 2
+  not-given d q = let z : _≡_ {A = ℕ} 0 1 = cc in absurd (omega arith)
+
+  pub run-refused : (read : List ℕ → Answer A) → ((s : List ℕ) → refused k ≡ read s → k ≡ 2) → (s : List ℕ) (from to : ℕ) → refused k ≡ inRun read s from to → k ≡ 2
+  unfolding inRun
+  run-refused read h s from to q = two (leb from to && leb to (length s)) (read (take (to - from) (drop from s))) (h (take (to - from) (drop from s))) q
+
+module _ (k : ℕ) where
+  made-refused : (neg : Bool) (i f : List ℕ) → refused k ≡ made neg i f → k ≡ 2
+  unfolding made
+  made-refused neg i f q =
+      two k (leb 1 (length i) && leb (length i + length f) 10 && leb (length f) 6) (given (lowest neg (valueOn 10 0 (i ++ f)) (length f))) (not-given k (lowest neg (valueOn 10 0 (i ++ f)) (length f))) q
+
+  pointed-refused : (neg : Bool) (i r : List ℕ) → refused k ≡ pointed neg i r → k ≡ 2
+  unfolding pointed
+  pointed-refused neg i [] q = made-refused neg i [] q
+  pointed-refused neg i (b ∷ f) q = two k (eqb b 46 && allDigits 10 f && leb 1 (length f)) (made neg i f) (made-refused neg i f) q
+
+  pub decimal-refused : (s : List ℕ) → refused k ≡ decimalOf s → k ≡ 2
+  unfolding decimalOf
+  decimal-refused s q = pointed-refused (minus s) (leading (drop (signs s) s)) (trailing (drop (signs s) s)) q
+
+  from-refused : (base most : ℕ) (ds : List ℕ) → refused k ≡ wholeFrom base most ds → k ≡ 2
+  unfolding wholeFrom
+  from-refused base most ds q = two k (allDigits base ds && leb (valueOn base 0 ds) most && leb 1 (length ds)) (given (valueOn base 0 ds)) (not-given k (valueOn base 0 ds)) q
+
+  whole-turn : (t : Bool) (x y : Answer ℕ) → (refused k ≡ x → k ≡ 2) → (refused k ≡ y → k ≡ 2) → refused k ≡ cond t x y → k ≡ 2
+  whole-turn true x y h g q = h q
+  whole-turn false x y h g q = g q
+
+  pub whole-refused : (most : ℕ) (s : List ℕ) → refused k ≡ wholeOf most s → k ≡ 2
+  unfolding wholeOf
+  whole-refused most s q =
+      whole-turn (leb 2 (length s) && eqb (getD s 0 0) 48 && eqb (getD s 1 0) 120) (cond (leb (length (drop 2 s)) 8) (wholeFrom 16 most (drop 2 s)) (refused 2)) (wholeFrom 10 most s)
+      (two k (leb (length (drop 2 s)) 8) (wholeFrom 16 most (drop 2 s)) (from-refused 16 most (drop 2 s))) (from-refused 10 most s) q

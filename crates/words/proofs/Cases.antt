@@ -1,75 +1,80 @@
 -- The class between two places, the kinds that the table's numbers stand for, and the parameters of the skipped plain keywords, by the tests that the code makes.
-use Prim.Native.Nat.{ℕ, _+_, _-_, _/_, _%_, _<_, _≤_}
+use Prim.Native.Nat.{ℕ, _+_, _*_, _-_, _/_, _%_, _<_, _≤_}
 use native.Mathlib.Omega.{arith}
 use mathlib.Core.Path.{_≡_, refl, sym, _∙_}
 use mathlib.Core.List.{List, [], _∷_}
-use mathlib.Core.Bool.{cond, _||_, and-false}
+use mathlib.Core.Bool.{false, cond, _||_, and-false}
 use borrow.Author.Tests.{ne-eqb, le-leb, lt-leb}
 use borrow.Author.Needs.{needs}
 use lib.Dec.{eqb}
 use lib.ListN.{length, take, drop, length-take, length-drop}
 use Rattle.words.specs.Kind.{Kind, takenBlock, takenPlain, takenChoice, skippedBlock, skippedPlain, listedOnly, unlisted, keywordCode}
-use Rattle.words.specs.Parameters.{Parameter, aString, aName, aWholeNumber, isCode, parametersOf}
+use Rattle.words.specs.Parameters.{Parameter, aString, aName, aWholeNumber, parametersOf}
 use Rattle.words.specs.Row.{bytes, word, same, kindIn}
 use Rattle.words.specs.Table.{rows}
-use Rattle.words.specs.Class.{classOf, classAt}
+use Rattle.words.specs.Class.{classOf, classAt, codeOf}
 use Rattle.words.specs.Inner.{kindOf}
 use Rattle.words.proofs.Lengths.{longest}
 
+-- what is left of a number without its code
+whole-of : (k i : ℕ) → k / 256 ≡ i → k - k % 256 ≡ i * 256
+whole-of k i h = omega arith
+
 module _ (k : ℕ) where
-  pub kind-1 : k / 256 ≡ 1 → takenBlock (k % 256) ≡ kindOf k
+  pub kind-1 : k - k % 256 ≡ 256 → takenBlock (k % 256) ≡ kindOf k
   unfolding kindOf
-  kind-1 h = rw h
+  kind-1 h = let d : k / 256 ≡ 1 = omega arith in rw d
 
-  pub kind-2 : k / 256 ≡ 2 → takenPlain (k % 256) ≡ kindOf k
+  pub kind-2 : k - k % 256 ≡ 512 → takenPlain (k % 256) ≡ kindOf k
   unfolding kindOf
-  kind-2 h = rw h
+  kind-2 h = let d : k / 256 ≡ 2 = omega arith in rw d
 
-  pub kind-3 : k / 256 ≡ 3 → takenChoice (k % 256) ≡ kindOf k
+  pub kind-3 : k - k % 256 ≡ 768 → takenChoice (k % 256) ≡ kindOf k
   unfolding kindOf
-  kind-3 h = rw h
+  kind-3 h = let d : k / 256 ≡ 3 = omega arith in rw d
 
-  pub kind-4 : k / 256 ≡ 4 → skippedBlock (k % 256) ≡ kindOf k
+  pub kind-4 : k - k % 256 ≡ 1024 → skippedBlock (k % 256) ≡ kindOf k
   unfolding kindOf
-  kind-4 h = rw h
+  kind-4 h = let d : k / 256 ≡ 4 = omega arith in rw d
 
-  pub kind-5 : k / 256 ≡ 5 → skippedPlain (k % 256) ≡ kindOf k
+  pub kind-5 : k - k % 256 ≡ 1280 → skippedPlain (k % 256) ≡ kindOf k
   unfolding kindOf
-  kind-5 h = rw h
+  kind-5 h = let d : k / 256 ≡ 5 = omega arith in rw d
 
-  pub kind-6 : k / 256 ≡ 6 → listedOnly ≡ kindOf k
+  pub kind-6 : k - k % 256 ≡ 1536 → listedOnly ≡ kindOf k
   unfolding kindOf
-  kind-6 h = rw h
+  kind-6 h = let d : k / 256 ≡ 6 = omega arith in rw d
 
-  pub kind-0 : (k / 256 ≡ 1 → ⊥) → (k / 256 ≡ 2 → ⊥) → (k / 256 ≡ 3 → ⊥) → (k / 256 ≡ 4 → ⊥) → (k / 256 ≡ 5 → ⊥) → (k / 256 ≡ 6 → ⊥) → unlisted ≡ kindOf k
+  pub kind-0 : (k - k % 256 ≡ 256 → ⊥) → (k - k % 256 ≡ 512 → ⊥) → (k - k % 256 ≡ 768 → ⊥) → (k - k % 256 ≡ 1024 → ⊥) → (k - k % 256 ≡ 1280 → ⊥) → (k - k % 256 ≡ 1536 → ⊥) → unlisted ≡ kindOf k
   unfolding kindOf
   kind-0 a b c d e f =
-      rw (ne-eqb (k / 256) 1 a, ne-eqb (k / 256) 2 b, ne-eqb (k / 256) 3 c, ne-eqb (k / 256) 4 d, ne-eqb (k / 256) 5 e, ne-eqb (k / 256) 6 f)
+      let n : (i : ℕ) → (k - k % 256 ≡ i * 256 → ⊥) → eqb (k / 256) i ≡ false = λ i h. ne-eqb (k / 256) i (λ z. h (whole-of k i z)) in
+      rw (n 1 a, n 2 b, n 3 c, n 4 d, n 5 e, n 6 f)
 
 pub ruleset kinds = (kind-1, kind-2, kind-3, kind-4, kind-5, kind-6, kind-0, needs)
 
 -- the codes of the skipped plain keywords, as the table has them
+format-code : codeOf "FORMAT" ≡ 37
+unfolding codeOf keywordCode classOf kindIn same rows word bytes
+format-code = refl
+
+name-code : codeOf "DISPLAY_IDENTIFIER" ≡ 38
+unfolding codeOf keywordCode classOf kindIn same rows word bytes
+name-code = refl
+
+unit-code : codeOf "PHYS_UNIT" ≡ 39
+unfolding codeOf keywordCode classOf kindIn same rows word bytes
+unit-code = refl
+
+version-code : codeOf "ASAP2_VERSION" ≡ 40
+unfolding codeOf keywordCode classOf kindIn same rows word bytes
+version-code = refl
+
+a2ml-code : codeOf "A2ML_VERSION" ≡ 41
+unfolding codeOf keywordCode classOf kindIn same rows word bytes
+a2ml-code = refl
+
 module _ (code : ℕ) where
-  is-format : isCode code "FORMAT" ≡ eqb code 37
-  unfolding isCode keywordCode classOf kindIn same rows word bytes
-  is-format = refl
-
-  is-name : isCode code "DISPLAY_IDENTIFIER" ≡ eqb code 38
-  unfolding isCode keywordCode classOf kindIn same rows word bytes
-  is-name = refl
-
-  is-unit : isCode code "PHYS_UNIT" ≡ eqb code 39
-  unfolding isCode keywordCode classOf kindIn same rows word bytes
-  is-unit = refl
-
-  is-version : isCode code "ASAP2_VERSION" ≡ eqb code 40
-  unfolding isCode keywordCode classOf kindIn same rows word bytes
-  is-version = refl
-
-  is-a2ml : isCode code "A2ML_VERSION" ≡ eqb code 41
-  unfolding isCode keywordCode classOf kindIn same rows word bytes
-  is-a2ml = refl
-
   -- the tests that the code makes
   by-code : List Parameter
   by-code =
@@ -77,7 +82,7 @@ module _ (code : ℕ) where
 
   by-code-is : by-code ≡ parametersOf code
   unfolding by-code parametersOf
-  by-code-is = rw (is-format, is-unit, is-name, is-version, is-a2ml)
+  by-code-is = rw (format-code, unit-code, name-code, version-code, a2ml-code)
 
   pub format-is : code ≡ 37 → aString ∷ [] ≡ parametersOf code
   unfolding by-code

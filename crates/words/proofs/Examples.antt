@@ -2,11 +2,11 @@
 use Prim.Native.String.{String}
 use mathlib.Core.Path.{_≡_, refl}
 use mathlib.Core.List.{List, [], _∷_}
-use Rattle.words.specs.Kind.{Kind, takenBlock, takenPlain, takenChoice, skippedBlock, skippedPlain, listedOnly, unlisted, keywordCode}
+use Rattle.words.specs.Kind.{Kind, takenBlock, takenPlain, takenChoice, skippedBlock, skippedPlain, listedOnly, unlisted, keywordCode, choiceCode}
 use Rattle.words.specs.Row.{word, bytes, same, kindIn}
 use Rattle.words.specs.Table.{rows}
-use Rattle.words.specs.Class.{classOf, classAt}
-use Rattle.words.specs.Parameters.{aString, aName, aWholeNumber, parametersOf, isCode}
+use Rattle.words.specs.Class.{classOf, classAt, codeOf, choiceOf}
+use Rattle.words.specs.Parameters.{aString, aName, aWholeNumber, parametersOf}
 
 -- a text, and its class
 data Case : Type 0 where
@@ -57,5 +57,10 @@ outside = refl
 
 -- a format, a display identifier, a version; a keyword that is taken has none here
 parameter-cases : parametersOf 37 ∷ parametersOf 38 ∷ parametersOf 40 ∷ parametersOf 1 ∷ [] ≡ (aString ∷ []) ∷ (aName ∷ []) ∷ (aWholeNumber ∷ aWholeNumber ∷ []) ∷ [] ∷ []
-unfolding parametersOf isCode keywordCode classOf kindIn same rows word bytes
+unfolding parametersOf codeOf keywordCode classOf kindIn same rows word bytes
 parameter-cases = refl
+
+-- codes by their texts
+codes : codeOf "COMPU_VTAB" ∷ codeOf "UBYTE" ∷ choiceOf "UBYTE" ∷ choiceOf "LINEAR" ∷ [] ≡ 5 ∷ 0 ∷ 1 ∷ 20 ∷ []
+unfolding codeOf choiceOf keywordCode choiceCode classOf kindIn same rows word bytes
+codes = refl

@@ -1,16 +1,22 @@
--- What callers need to know of the words: none stands twice, and a code belongs to one word.
-use Prim.Native.Nat.{ℕ, _<_}
+-- What callers need to know of the words: a class goes by the bytes alone, none stands twice, and a code belongs to one word.
+use Prim.Native.Nat.{ℕ, _-_, _<_, _≤_}
 use native.Mathlib.Omega.{arith}
 use mathlib.Core.Path.{_≡_, refl, sym, _∙_}
 use mathlib.Core.List.{List, [], _∷_}
 use mathlib.Core.Bool.{Bool, true, false, cond, not, _&&_, _||_, or-true}
-use borrow.Author.Tests.{eqb-true, eq-eqb, ne-eqb}
+use borrow.Author.Tests.{eqb-true, eq-eqb, ne-eqb, le-leb}
 use lib.Dec.{eqb}
+use lib.ListN.{length, take, drop}
 use Rattle.words.specs.Kind.{Kind, unlisted, keywordCode, choiceCode}
 use Rattle.words.specs.Row.{Row, row, word, bytes, same, kindIn}
 use Rattle.words.specs.Table.{rows}
-use Rattle.words.specs.Class.{classOf}
+use Rattle.words.specs.Class.{classOf, classAt}
 use Rattle.words.proofs.Lengths.{both}
+
+-- the class between two places is that of the bytes there
+pub class-between : (s : List ℕ) (from to : ℕ) → from ≤ to → to ≤ length s → classAt s from to ≡ classOf (take (to - from) (drop from s))
+unfolding classAt
+class-between s from to h g = rw (le-leb from to h, le-leb to (length s) g)
 
 -- whether a word stands in rows, and whether none stands twice
 unfoldable pub stands : List ℕ → List Row → Bool

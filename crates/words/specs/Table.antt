@@ -1,4 +1,5 @@
 -- Document 000's words and what document 01 does with each: a row to a line, in the order of the alphabet.
+-- Five of them stand in document 000's index or hierarchy tables alone, and count as listed: AXIS_RESCALE_4, _5, _Y, _Z and VAR_SEPERATOR.
 use mathlib.Core.List.{List, [], _∷_}
 use Rattle.words.specs.Kind.{Kind, takenBlock, takenPlain, takenChoice, skippedBlock, skippedPlain, listedOnly}
 use Rattle.words.specs.Row.{Row, word}

@@ -9,6 +9,13 @@ use crate::codes::ASAP2_VERSION;
 use crate::codes::DISPLAY_IDENTIFIER;
 use crate::codes::FORMAT;
 use crate::codes::PHYS_UNIT;
+use crate::kinds::CODES;
+use crate::kinds::LISTED_ONLY;
+use crate::kinds::SKIPPED_BLOCK;
+use crate::kinds::SKIPPED_PLAIN;
+use crate::kinds::TAKEN_BLOCK;
+use crate::kinds::TAKEN_CHOICE;
+use crate::kinds::TAKEN_PLAIN;
 use crate::long;
 use crate::middle;
 use crate::short;
@@ -43,14 +50,14 @@ pub enum Parameters {
 fn class_from(k: u16) -> Class
     ensures { λ r. ⌜ toldClass r ≡ kindOf k ⌝ }
 {
-    let code = (k % 256) as u8;
-    match k / 256 {
-        1 => Class::TakenBlock(code),
-        2 => Class::TakenPlain(code),
-        3 => Class::TakenChoice(code),
-        4 => Class::SkippedBlock(code),
-        5 => Class::SkippedPlain(code),
-        6 => Class::ListedOnly,
+    let code = (k % CODES) as u8;
+    match k - k % CODES {
+        TAKEN_BLOCK => Class::TakenBlock(code),
+        TAKEN_PLAIN => Class::TakenPlain(code),
+        TAKEN_CHOICE => Class::TakenChoice(code),
+        SKIPPED_BLOCK => Class::SkippedBlock(code),
+        SKIPPED_PLAIN => Class::SkippedPlain(code),
+        LISTED_ONLY => Class::ListedOnly,
         _ => Class::Unlisted,
     }
 }

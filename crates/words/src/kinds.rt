@@ -1,4 +1,6 @@
-// The numbers that stand for what is done with a word: 256 times one of these, with the word's code added.
+// The numbers that stand for what is done with a word: one of these, and the word's code added, which is below CODES.
+pub const CODES: u16 = 256;
+
 pub const TAKEN_BLOCK: u16 = 256;
 
 pub const TAKEN_PLAIN: u16 = 512;

@@ -12,7 +12,7 @@ taken-pairs-spec =
     (λ c κs. search pairings)
     (λ c. search pairings)
     (λ c κs. search pairings)
-    (λ c. search pairings)
+    (λ c κs. search pairings)
     (λ c κs. search pairings)
     (λ c κs. search pairings)
     (λ c κs. search pairings)

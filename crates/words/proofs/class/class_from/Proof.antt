@@ -6,4 +6,13 @@ use Rattle.words.proofs.Cases.{kinds}
 pub class-from-spec : {M : Type 1} → statement M
 class-from-spec =
     tie.close
-    (tie.spec (λ c. search kinds) (λ c. search kinds) (λ c. search kinds) (λ c. search kinds) (λ c. search kinds) (λ c. search kinds) (λ c. search kinds) (λ c. search kinds))
+    (tie.spec
+    (λ c. search kinds)
+    (λ c. search kinds)
+    (λ c. search kinds)
+    (λ c. search kinds)
+    (λ c. search kinds)
+    (λ c. search kinds)
+    (λ c. search kinds)
+    (λ c. search kinds)
+    (λ c. search kinds))

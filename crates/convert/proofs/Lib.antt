@@ -9,3 +9,4 @@ pub mod Askeds
 pub mod Verbals
 pub mod Ring
 pub mod Laws
+pub mod Examples

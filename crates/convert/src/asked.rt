@@ -1,20 +1,20 @@
 // A physical write: from the asked text to the raw number to store.
 ghost use mathlib.Core.Path.{_≡_};
-ghost use Prim.Native.Nat.{_<_, _≤_, _^_};
+ghost use Prim.Native.Nat.{_≤_};
 ghost use lib.IntN.{natAbs};
 ghost use Rattle.number.specs.Told.{scaled};
 ghost use Rattle.cell.specs.Kind.{shapeOf};
 ghost use Rattle.convert.specs.Whole.{Small};
-ghost use Rattle.convert.specs.Round.{away, rounded, nearest, rawFor};
+ghost use Rattle.convert.specs.Round.{away, rawFor};
 ghost use Rattle.convert.specs.Asked.{fittingRaw, nearestRaw, askedRaw};
 ghost use Rattle.convert.specs.Told.{toldRaw};
 use crate::limit::at_most;
 use crate::method::Coefficients;
+use crate::round::nearest_of;
 use crate::whole::all_small;
 use crate::whole::ten;
 use crate::whole::with_sign;
 use cell::raw::fits_raw;
-use cell::size::size;
 use number::decimal::Decimal;
 use number::decimal::DecimalAnswer;
 use number::decimal::decimal_of;
@@ -33,30 +33,6 @@ const MOST_ASKED: u64 = 1000000000;
 pub enum RawAnswer {
     Raw(i64),
     Refused { no: u8 },
-}
-
-// The size n/d rounded to the nearest whole number, halves up.
-fn rounded_of(n: u64, d: u64) -> u64
-    requires { ⌜ (n < 2 ^ 61) × (d < 2 ^ 61) × (0 < d) ⌝ }
-    ensures { λ r. ⌜ r ≡ rounded away n d ⌝ }
-{
-    let q = n / d;
-    if 2 * (n % d) < d {
-        return q;
-    }
-    q + 1
-}
-
-// The whole number nearest to n/d, halves away from zero.
-fn nearest_of(n: i64, d: i64) -> i64
-    requires { ⌜ (natAbs n < 2 ^ 61) × (natAbs d < 2 ^ 61) × (0 < natAbs d) ⌝ }
-    ensures { λ r. ⌜ r ≡ nearest away n d ⌝ }
-{
-    let m = rounded_of(size(n), size(d));
-    if n < 0 {
-        return with_sign(0 <= d, m);
-    }
-    with_sign(d < 0, m)
 }
 
 // The raw number nearest to what p/q asks.

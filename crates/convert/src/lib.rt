@@ -3,5 +3,6 @@ pub mod asked;
 pub mod fraction;
 pub mod limit;
 pub mod method;
+mod round;
 pub mod verbal;
 mod whole;

@@ -2,3 +2,6 @@ pub mod TableLaws
 pub mod ViewLaws
 pub mod NameLaws
 pub mod ParameterLaws
+pub mod Cells
+pub mod KeywordLaws
+pub mod ReadLaws

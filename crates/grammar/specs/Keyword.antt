@@ -48,11 +48,15 @@ limitOf v i = cond (eqb (rowCell i 8) axis) (axesOf (current v object 4)) 1
 abbrev pub isOften : View → ℕ → Bool
 isOften v i = not (eqb (rowCell i 4) 0) && leb (limitOf v i) (seen v i)
 
+-- one more, as far as a keyword is counted (none stands more than twice)
+unfoldable pub oneMore : ℕ → ℕ
+oneMore n = cond (ltb n 255) (n + 1) 255
+
 -- that the keyword of row i was there is counted, and a record is added where the row says so
 abbrev pub counting : View → ℕ → Act
 counting v i =
     cond (eqb (rowCell i 4) 0) idle
-    (record { adds = rowCell i 8; sec = rowCell i 3; slot = rowCell i 4; many = 1; a = seen v i + 1; b = 0; c = 0; d = 0 })
+    (record { adds = rowCell i 8; sec = rowCell i 3; slot = rowCell i 4; many = 1; a = oneMore (seen v i); b = 0; c = 0; d = 0 })
 
 -- a keyword of row i in the block b, from a up to e, whose block is then `inner`
 unfoldable pub stands : View → ℕ → ℕ → ℕ → ℕ → Move

@@ -6,3 +6,4 @@ pub mod Move
 pub mod Parameter
 pub mod Keyword
 pub mod Read
+pub mod Out

@@ -24,9 +24,12 @@ onPiece x v s k a e =
     (cond (eqb (s .param) 0) (item x v s k a e) (taken x v s k a e))))
 
 -- the text's end: "text ends early" is 3 there
+abbrev pub finishing : State → ℕ → Move
+finishing s p = cond (eqb (s .mode) finished) over (refused 3 p)
+
 abbrev pub onToken : List ℕ → View → State → Answer Piece → Move
 onToken x v s (given (piece kind a e)) = onPiece x v s (kindNumber kind) a e
-onToken x v s (given (finish p)) = cond (eqb (s .mode) finished) over (refused 3 p)
+onToken x v s (given (finish p)) = finishing s p
 onToken x v s (text.refused n p) = refused n p
 
 unfoldable pub move : List ℕ → View → State → ℕ → Move

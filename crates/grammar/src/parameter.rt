@@ -32,13 +32,18 @@ ghost use Rattle.grammar.specs.Parameter.{secOf, slotOf, wrong, after, k
 
 // The kinds of a piece.
 pub const NAME: u8 = 0;
+
 pub const TEXT: u8 = 1;
+
 pub const NUMBER: u8 = 2;
+
 pub const BEGIN: u8 = 4;
+
 pub const END: u8 = 5;
 
 // The most points on one axis, and the most verbal entries.
 const MOST_POINTS: u64 = 256;
+
 const MOST_ENTRIES: u16 = 1024;
 
 // What is expected next.

@@ -43,3 +43,9 @@ pub enum Move {
         place: usize,
     },
 }
+
+// The description was read, or a refusal.
+pub enum ReadAnswer {
+    Accepted,
+    Refused { no: u8, place: usize },
+}

@@ -1,4 +1,4 @@
--- `convert::asked::nearest_of` meets its contract. Assumes nothing.
+-- `convert::round::nearest_of` meets its contract. Assumes nothing.
 use mathlib.Core.Path.{_≡_, sym, ap₂, _∙_}
 use mathlib.Core.Bool.{true, false}
 use Prim.Native.Nat.{_<_, _^_}
@@ -10,8 +10,8 @@ use Rattle.convert.specs.Whole.{signedOf}
 use Rattle.convert.specs.Round.{away, rounded}
 use Rattle.convert.proofs.Rounds.{rounded-le, nearest-neg, nearest-pos}
 use borrow.Author.Needs.{needs}
-use Rattle.convert.proofs.asked.nearest_of.Statement.{statement}
-use Rattle.convert.proofs.asked.nearest_of.Tie as tie
+use Rattle.convert.proofs.round.nearest_of.Statement.{statement}
+use Rattle.convert.proofs.round.nearest_of.Tie as tie
 
 n-is : (a : tie.Start) → Is (back (a .args .n)) (a .args .n) (natAbs (a .args .n))
 n-is a = is-param (a .fits .n)

@@ -1,10 +1,10 @@
--- `convert::asked::rounded_of` meets its contract. Assumes nothing.
+-- `convert::round::rounded_of` meets its contract. Assumes nothing.
 use native.Mathlib.Nat.{mod-lt, div-le-self}
 use native.Mathlib.Omega.{arith}
 use Rattle.convert.proofs.Rounds.{rounded-down, rounded-up}
 use borrow.Author.Needs.{needs}
-use Rattle.convert.proofs.asked.rounded_of.Statement.{statement}
-use Rattle.convert.proofs.asked.rounded_of.Tie as tie
+use Rattle.convert.proofs.round.rounded_of.Statement.{statement}
+use Rattle.convert.proofs.round.rounded_of.Tie as tie
 
 mul-if1 : tie.Need-mul-if1
 mul-if1 c = omega (arith, mod-lt (c .args .n) {m = c .args .d} (c .pre .2))

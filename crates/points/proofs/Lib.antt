@@ -1,0 +1,2 @@
+-- The points' one statement.
+pub mod Points

@@ -1,8 +1,8 @@
 // The grammar: rows as data, and one engine that reads a description into records, a token a step.
-pub mod keyword;
+mod keyword;
 pub mod names;
-pub mod parameter;
+mod parameter;
 pub mod read;
-pub mod rows;
+mod rows;
 pub mod state;
 pub mod view;

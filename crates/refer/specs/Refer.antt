@@ -1,0 +1,81 @@
+-- References: "then references in text order (a reference that leads nowhere stops the load)", 7 at the reference's place.
+use Prim.Native.Nat.{ℕ, zero, suc, _+_, min}
+use mathlib.Core.List.{List, [], _∷_}
+use mathlib.Core.Bool.{Bool, true, false, cond, not, _&&_, _||_}
+use lib.ListN.{length, getD}
+use lib.Dec.{ltb, eqb}
+use Rattle.text.specs.Answer.{Answer, given, refused}
+use Rattle.text.specs.Bytes.{spells}
+use Rattle.grammar.specs.Codes.{AXIS-PTS, MEASUREMENT}
+use Rattle.grammar.specs.Sections.{method, table, layout, object, axis}
+use Rattle.grammar.specs.Move.{View}
+use Rattle.grammar.specs.Parameter.{find}
+use Rattle.refer.specs.declared.Row.{Row}
+use Rattle.refer.specs.declared.Reference.{Reference}
+use Rattle.refer.specs.declared.Reference.the-variants as variant
+
+-- where a reference stands: the section and the slot of its name; what it must lead to: a record of a section, of a class where it is
+-- not 0; and the word that stands for none (1 NO_COMPU_METHOD, 2 NO_INPUT_QUANTITY, 0 no such word)
+abbrev pub row : ℕ → ℕ → ℕ → ℕ → ℕ → Row
+row j k t c f = record { sec = j; slot = k; target = t; class = c; free = f }
+
+-- "An input quantity is a MEASUREMENT or NO_INPUT_QUANTITY"; layouts, conversions, verbal tables; "COM_AXIS with AXIS_PTS_REF"
+unfoldable pub innerRows : List Row
+innerRows =
+    row axis 2 object MEASUREMENT 2
+    ∷ row axis 4 method 0 1
+    ∷ row axis 14 object AXIS-PTS 0
+    ∷ row method 26 table 0 0
+    ∷ []
+
+unfoldable pub rows : List Row
+rows =
+    row object 6 layout 0 0
+    ∷ row object 8 method 0 1
+    ∷ row object 10 object MEASUREMENT 2
+    ∷ innerRows
+
+-- the bytes from a up to e are the word that stands for none
+unfoldable pub isFree : List ℕ → ℕ → ℕ → ℕ → Bool
+isFree x f a e = eqb f 1 && spells x a e "NO_COMPU_METHOD" || eqb f 2 && spells x a e "NO_INPUT_QUANTITY"
+
+-- the record that was found, its number plus one, is of the class
+abbrev pub isOf : View → ℕ → ℕ → ℕ → Bool
+isOf v j c zero = false
+isOf v j c (suc i) = eqb c 0 || eqb (v .slots j i 3) c
+
+-- the name from a up to e leads somewhere
+unfoldable pub leads : List ℕ → View → Row → ℕ → ℕ → Bool
+leads x v r a e = isFree x (r .free) a e || isOf v (r .target) (r .class) (find x v (r .target) a e)
+
+-- a reference that leads nowhere is 7 at its first byte
+abbrev pub judged : List ℕ → View → Row → ℕ → ℕ → Answer (Unit {0})
+judged x v r a e = cond (leads x v r a e) (given tt) (refused 7 a)
+
+-- the place of record i's reference where it leads nowhere, and else the text's length; a reference that is not there has the end 0
+unfoldable pub failing : List ℕ → View → Row → ℕ → ℕ
+failing x v r i =
+    cond (eqb (v .slots (r .sec) i (r .slot + 1)) 0 || leads x v r (v .slots (r .sec) i (r .slot)) (v .slots (r .sec) i (r .slot + 1)))
+    (length x) (v .slots (r .sec) i (r .slot))
+
+-- the least of the records from i on
+unfoldable pub leastFrom : ℕ → List ℕ → View → Row → ℕ → ℕ
+leastFrom zero x v r i = length x
+leastFrom (suc f) x v r i = min (failing x v r i) (leastFrom f x v r (suc i))
+
+abbrev pub leastOf : List ℕ → View → Row → ℕ
+leastOf x v r = leastFrom (v .counts (r .sec)) x v r 0
+
+-- the first of all references, by place, that leads nowhere; the text's length where each leads somewhere
+abbrev pub leastIn : List ℕ → View → List Row → ℕ
+leastIn x v [] = length x
+leastIn x v (r ∷ rs) = min (leastOf x v r) (leastIn x v rs)
+
+-- every reference leads somewhere, or 7 at the first that does not
+unfoldable pub referred : List ℕ → View → Answer (Unit {0})
+referred x v = cond (ltb (leastIn x v rows) (length x)) (refused 7 (leastIn x v rows)) (given tt)
+
+-- what `Reference` answers
+abbrev pub told : Reference → Answer (Unit {0})
+told variant.Fine = given tt
+told (variant.Refused n p) = refused n p

@@ -1,0 +1,143 @@
+// References: the first that leads nowhere stops the load.
+use grammar::names::Found;
+use grammar::names::find;
+use grammar::view::AXIS;
+use grammar::view::LAYOUT;
+use grammar::view::METHOD;
+use grammar::view::OBJECT;
+use grammar::view::TABLE;
+use grammar::view::count_of;
+use grammar::view::slot_of;
+use text::bytes::same_part;
+ghost use mathlib.Core.Path.{_≡_};
+ghost use Prim.Native.Nat.{min};
+ghost use Rattle.grammar.specs.Move.{viewIn};
+ghost use Rattle.refer.specs.Refer.{innerRows, rows, row, isFree, judged, failing, leastOf, leastIn, referred, told};
+
+// Every reference leads somewhere, or the refusal of the first that does not.
+pub enum Reference {
+    Fine,
+    Refused { no: u8, place: usize },
+}
+
+// A reference: its section and slot, the section and class that it must lead to, and the word that stands for none.
+pub struct Row {
+    pub sec: u8,
+    pub slot: u8,
+    pub target: u8,
+    pub class: u8,
+    pub free: u8,
+}
+
+// A row of the references.
+fn row_of(sec: u8, slot: u8, target: u8, class: u8, free: u8) -> Row
+    ensures { λ r. ⌜ r ≡ row sec slot target class free ⌝ }
+{
+    Row {
+        sec,
+        slot,
+        target,
+        class,
+        free,
+    }
+}
+
+// Whether the bytes from a up to e are the word that stands for none.
+fn is_free(x: &[u8], free: u8, a: usize, e: usize) -> bool
+    ensures { λ r. ⌜ r ≡ isFree (now (x .entry)) free a e ⌝ }
+{
+    let no_method = same_part(x, a, e, b"NO_COMPU_METHOD", 0, 15);
+    let no_quantity = same_part(x, a, e, b"NO_INPUT_QUANTITY", 0, 17);
+    (free == 1) & no_method | (free == 2) & no_quantity
+}
+
+// What the name from a up to e leads to: a record of the right class, or refusal 7 at its first byte.
+fn refer(x: &[u8], t: &[u64], r: Row, a: usize, e: usize) -> Reference
+    ensures { λ q. ⌜ told q ≡ judged (now (x .entry)) (viewIn (now (t .entry))) r a e ⌝ }
+{
+    if is_free(x, r.free, a, e) {
+        return Reference::Fine;
+    }
+    let Found::At(i) = find(x, t, r.target, a, e) else {
+        return Reference::Refused { no: 7, place: a };
+    };
+    if (r.class == 0) | (slot_of(t, r.target, i, 3) == (r.class as u64)) {
+        return Reference::Fine;
+    }
+    Reference::Refused { no: 7, place: a }
+}
+
+// The place of record i's reference where it leads nowhere, and else the text's length.
+fn failing_of(x: &[u8], t: &[u64], r: Row, i: u16) -> usize
+    ensures { λ q. ⌜ q ≡ failing (now (x .entry)) (viewIn (now (t .entry))) r i ⌝ }
+{
+    let k = r.slot as u16;
+    let a = slot_of(t, r.sec, i, k) as usize;
+    let e = slot_of(t, r.sec, i, k + 1) as usize;
+    if e == 0 {
+        return x.len();
+    }
+    match refer(x, t, r, a, e) {
+        Reference::Fine => x.len(),
+        Reference::Refused { no: _, place } => place,
+    }
+}
+
+// The smaller of two places.
+fn smaller(a: usize, b: usize) -> usize
+    ensures { λ r. ⌜ r ≡ min a b ⌝ }
+{
+    if a < b { a } else { b }
+}
+
+// The least place of a row's references that lead nowhere.
+fn least_of(x: &[u8], t: &[u64], r: Row) -> usize
+    ensures { λ q. ⌜ q ≡ leastOf (now (x .entry)) (viewIn (now (t .entry))) r ⌝ }
+{
+    let count = count_of(t, r.sec);
+    let mut least = x.len();
+    let mut i = count;
+    while 0 < i {
+        i -= 1;
+        least = smaller(failing_of(x, t, r, i), least);
+    }
+    least
+}
+
+// The same, or the rest's where that is less.
+fn least_with(x: &[u8], t: &[u64], r: Row, rest: usize) -> usize
+    ensures { λ q. ⌜ q ≡ min (leastOf (now (x .entry)) (viewIn (now (t .entry))) r) rest ⌝ }
+{
+    smaller(least_of(x, t, r), rest)
+}
+
+// The least place of the references of axes and methods that lead nowhere.
+fn least_inside(x: &[u8], t: &[u64]) -> usize
+    ensures { λ q. ⌜ q ≡ leastIn (now (x .entry)) (viewIn (now (t .entry))) innerRows ⌝ }
+{
+    let g = least_with(x, t, row_of(METHOD, 26, TABLE, 0, 0), x.len());
+    let f = least_with(x, t, row_of(AXIS, 14, OBJECT, 7, 0), g);
+    let e = least_with(x, t, row_of(AXIS, 4, METHOD, 0, 1), f);
+    least_with(x, t, row_of(AXIS, 2, OBJECT, 10, 2), e)
+}
+
+// The least place of all references that lead nowhere.
+fn least_in(x: &[u8], t: &[u64]) -> usize
+    ensures { λ q. ⌜ q ≡ leastIn (now (x .entry)) (viewIn (now (t .entry))) rows ⌝ }
+{
+    let d = least_inside(x, t);
+    let c = least_with(x, t, row_of(OBJECT, 10, OBJECT, 10, 2), d);
+    let b = least_with(x, t, row_of(OBJECT, 8, METHOD, 0, 1), c);
+    least_with(x, t, row_of(OBJECT, 6, LAYOUT, 0, 0), b)
+}
+
+// Judges every reference of the records.
+pub fn refer_all(x: &[u8], t: &[u64]) -> Reference
+    ensures { λ q. ⌜ told q ≡ referred (now (x .entry)) (viewIn (now (t .entry))) ⌝ }
+{
+    let place = least_in(x, t);
+    if place < x.len() {
+        return Reference::Refused { no: 7, place };
+    }
+    Reference::Fine
+}

@@ -1,0 +1,46 @@
+-- Conversions: "then conversions", 10 at the method's name. Methods that nothing uses are judged too.
+use Prim.Native.Nat.{ℕ, zero, suc, _+_, min}
+use mathlib.Core.Bool.{Bool, true, false, cond}
+use lib.Dec.{eqb}
+use Rattle.text.specs.Answer as text
+use Rattle.number.specs.Answer.{Answer, given}
+use Rattle.number.specs.Decimal.{Scaled}
+use Rattle.number.specs.Form.{isGiven}
+use Rattle.convert.specs.Method.{ratFunc, linearOf, identicalOf}
+use Rattle.convert.specs.declared.method.Coefficients.{Coefficients}
+use Rattle.grammar.specs.Codes.{LINEAR, RAT-FUNC}
+use Rattle.grammar.specs.Sections.{method}
+use Rattle.grammar.specs.Move.{View}
+use Rattle.methods.specs.declared.Converted.{Converted}
+use Rattle.methods.specs.declared.Converted.the-variants as variant
+
+-- the decimal in three slots of method i (a decimal's power of ten is at most 6)
+abbrev pub decimalAt : View → ℕ → ℕ → Scaled
+decimalAt v i k = record { negative = eqb (v .slots method i k) 1; whole = v .slots method i (k + 1); tens = min (v .slots method i (k + 2)) 7 }
+
+-- "LINEAR with COEFFS_LINEAR": a and b; "RAT_FUNC with COEFFS": b, c, e, f
+unfoldable pub linearAt : View → ℕ → Answer Coefficients
+linearAt v i = linearOf (decimalAt v i 19) (decimalAt v i 22)
+
+unfoldable pub ratFuncAt : View → ℕ → Answer Coefficients
+ratFuncAt v i = ratFunc (decimalAt v i 6) (decimalAt v i 9) (decimalAt v i 12) (decimalAt v i 15)
+
+-- the four coefficients of method i; IDENTICAL has 1, 0, 0, 1, and so has TAB_VERB, which asks none
+unfoldable pub coefficients : View → ℕ → Answer Coefficients
+coefficients v i =
+    cond (eqb (v .slots method i 4) LINEAR) (linearAt v i)
+    (cond (eqb (v .slots method i 4) RAT-FUNC) (ratFuncAt v i)
+    (given identicalOf))
+
+-- the first method from i on that has none is 10 at its name
+unfoldable pub convertsFrom : ℕ → View → ℕ → text.Answer (Unit {0})
+convertsFrom zero v i = text.given tt
+convertsFrom (suc f) v i = cond (isGiven (coefficients v i)) (convertsFrom f v (suc i)) (text.refused 10 (v .slots method i 0))
+
+abbrev pub converts : View → text.Answer (Unit {0})
+converts v = convertsFrom (v .counts method) v 0
+
+-- what `Converted` answers
+abbrev pub told : Converted → text.Answer (Unit {0})
+told variant.Fine = text.given tt
+told (variant.Refused n p) = text.refused n p

@@ -29,7 +29,7 @@ use Rattle.records.specs.Cells.{sectionIn, countIn}
 use Rattle.records.specs.declared.Section.{Section}
 use Rattle.grammar.specs.Sections.{sections, entry}
 use Rattle.grammar.specs.Rows.{paramCell, limitCell}
-use Rattle.grammar.specs.Move.{View, current, state, items, idle, writes, Move, went, refused, moved}
+use Rattle.grammar.specs.Move.{View, viewIn, current, decimalSlots, state, items, idle, writes, Move, went, refused, moved}
 use Rattle.grammar.specs.Parameter.{wrong, kindOf, slotOf, nextOf, secOf, lowOf, highOf, after, keeping, takenWhole, takenPairs, signOf, decimalIn, hasEntry, twice, newRecord, takenEntry, takenDecimal, ofNumber, ofPairs, ofWhole, ofDecimal, takenNumber, foundAt, find, takenNew, ofChoice, takenName, afterText, takenText, taken}
 use Rattle.grammar.specs.declared.state.State.{State}
 use Rattle.grammar.specs.declared.state.Act.{Act}
@@ -103,11 +103,10 @@ pub ruleset pairings = (pairs-none, pairs-some, needs)
 
 -- ---- decimals
 
-pub decimal-is : (v : View) (j k s w p q : ℕ) → s ≡ current v j k → w ≡ current v j (k + 1) → p ≡ current v j (k + 2) → q ≡ min p 7
-    → _≡_ {A = Scaled} (record { negative = eqb s 1; whole = w; tens = q }) (decimalIn v j k)
-decimal-is v j k s w p q a b c d = rw (a, b, d, c)
+pub decimal-current : (t : List ℕ) (j k n b : ℕ) (d : Decimal) → n ≡ countIn t (sectionIn sections j) → b ≡ n - 1 → scaled d ≡ decimalSlots (viewIn t) j b k → scaled d ≡ decimalIn (viewIn t) j k
+decimal-current t j k n b d p q r = r ∙ rw (q, p)
 
-pub ruleset decimals = (decimal-is, needs)
+pub ruleset decimals = (decimal-current, needs)
 
 -- whether an entry from i on has the number is whether one of the table has
 abbrev pub Having : View → ℕ → ℕ → ℕ → Type 0

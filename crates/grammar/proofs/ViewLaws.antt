@@ -1,5 +1,7 @@
 -- What can be asked of the records, and writing into them, by the branches that the code takes.
-use Prim.Native.Nat.{ℕ, zero, suc, _+_, _-_, _≤_, _<_}
+use Prim.Native.Nat.{ℕ, zero, suc, _+_, _-_, _≤_, _<_, min}
+use lib.Dec.{eqb}
+use Rattle.number.specs.Decimal.{Scaled}
 use mathlib.Core.Path.{_≡_, refl, sym, _∙_, ap, subst}
 use mathlib.Core.List.{List, [], _∷_, _++_}
 use mathlib.Core.Bool.{and-false}
@@ -12,7 +14,7 @@ use lib.Seq.{take-nil}
 use Rattle.records.specs.Cells.{sectionIn, baseIn, countIn, slotIn, putIn, addIn}
 use Rattle.records.specs.declared.Section.{Section}
 use Rattle.grammar.specs.Sections.{sections}
-use Rattle.grammar.specs.Move.{viewIn, current, values, putsIn, appliedIn}
+use Rattle.grammar.specs.Move.{viewIn, current, decimalSlots, values, putsIn, appliedIn}
 use Rattle.grammar.specs.declared.state.Act.{Act}
 
 abbrev sec : ℕ → ℕ → ℕ → Section
@@ -78,6 +80,12 @@ module _ (t : List ℕ) (j : ℕ) (c : Section) (p : c ≡ sectionIn sections j)
 
 pub current-is : (t : List ℕ) (j k n b v : ℕ) → n ≡ countIn t (sectionIn sections j) → b ≡ n - 1 → v ≡ slotIn t (sectionIn sections j) b k → v ≡ current (viewIn t) j k
 current-is t j k n b v p q r = rw (r, q, p)
+
+pub decimal-is : (t : List ℕ) (j i k s w p q : ℕ) → s ≡ slotIn t (sectionIn sections j) i k → w ≡ slotIn t (sectionIn sections j) i (k + 1) → p ≡ slotIn t (sectionIn sections j) i (k + 2) → q ≡ min p 7
+    → _≡_ {A = Scaled} (record { negative = eqb s 1; whole = w; tens = q }) (decimalSlots (viewIn t) j i k)
+decimal-is t j i k s w p q a b c d = rw (a, b, d, c)
+
+pub ruleset decimal-views = (decimal-is, needs)
 
 pub ruleset views = (count-is, slot-is, current-is, needs)
 

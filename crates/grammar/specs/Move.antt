@@ -1,7 +1,9 @@
 -- What a token leads to: the next state and what is written into the records, or a refusal.
-use Prim.Native.Nat.{ℕ, suc, _-_}
+use Prim.Native.Nat.{ℕ, suc, _+_, _-_, min}
 use mathlib.Core.List.{List, [], _∷_}
 use lib.ListN.{take}
+use lib.Dec.{eqb}
+use Rattle.number.specs.Decimal.{Scaled}
 use Rattle.text.specs.declared.cursor.Cursor.{Cursor}
 use Rattle.records.specs.Records.{count, slot, put, add}
 use Rattle.records.specs.Cells.{sectionIn, countIn, slotIn, putIn, addIn}
@@ -23,6 +25,10 @@ view d = record { counts = count d; slots = slot d }
 -- number k of the current record of section j, which is its last
 abbrev pub current : View → ℕ → ℕ → ℕ
 current v j k = v .slots j (v .counts j - 1) k
+
+-- the decimal in three slots of record i of section j: 1 below zero, its whole number, its power of ten (which is at most 6)
+abbrev pub decimalSlots : View → ℕ → ℕ → ℕ → Scaled
+decimalSlots v j i k = record { negative = eqb (v .slots j i k) 1; whole = v .slots j i (k + 1); tens = min (v .slots j i (k + 2)) 7 }
 
 -- the modes
 abbrev pub items : ℕ

@@ -18,7 +18,7 @@ use Rattle.words.specs.Class.{classAt}
 use Rattle.records.specs.Records.{mostOf}
 use Rattle.grammar.specs.Sections.{sections, entry, table, none}
 use Rattle.grammar.specs.Rows.{paramCell, limitCell}
-use Rattle.grammar.specs.Move.{View, current, state, items, idle, writes, Move, went, refused}
+use Rattle.grammar.specs.Move.{View, current, decimalSlots, state, items, idle, writes, Move, went, refused}
 use Rattle.grammar.specs.declared.names.Found.{Found}
 use Rattle.grammar.specs.declared.names.Found.the-variants as found
 use Rattle.grammar.specs.declared.state.State.{State}
@@ -92,9 +92,9 @@ takenPairs s e n =
 
 -- ---- decimals
 
--- the decimal in three slots of the current record (a decimal's power of ten is at most 6)
+-- the decimal in three slots of the current record
 abbrev pub decimalIn : View → ℕ → ℕ → Scaled
-decimalIn v j k = record { negative = eqb (current v j k) 1; whole = current v j (k + 1); tens = min (current v j (k + 2)) 7 }
+decimalIn v j k = decimalSlots v j (v .counts j - 1) k
 
 -- an entry of the current table from record i on has the number
 unfoldable pub hasEntry : ℕ → View → ℕ → ℕ → ℕ → Bool

@@ -10,8 +10,10 @@ use crate::state::State;
 use crate::view::ENTRY;
 use crate::view::NONE;
 use crate::view::TABLE;
+use crate::view::before;
 use crate::view::count_of;
 use crate::view::current_of;
+use crate::view::decimal_slots;
 use crate::view::section_of;
 use crate::view::slot_of;
 use number::decimal::Decimal;
@@ -184,32 +186,17 @@ fn sign_of(d: Decimal) -> u64
 }
 
 // The slot three before another.
-fn three_before(k: u8) -> u16
+fn three_before(k: u8) -> u8
     ensures { λ r. ⌜ r ≡ k - 3 ⌝ }
 {
-    if k < 3 { 0 } else { (k as u16) - 3 }
-}
-
-// At most 7, as a power of ten.
-fn power_of(n: u64) -> u32
-    ensures { λ r. ⌜ r ≡ min n 7 ⌝ }
-{
-    if n < 7 { n as u32 } else { 7 }
+    if k < 3 { 0 } else { k - 3 }
 }
 
 // The decimal in three slots of the current record of section j.
-fn decimal_at(t: &[u64], j: u8, k: u16) -> Decimal
-    requires { ⌜ k < 256 ⌝ }
+fn decimal_at(t: &[u64], j: u8, k: u8) -> Decimal
     ensures { λ r. ⌜ scaled r ≡ decimalIn (viewIn (now (t .entry))) j k ⌝ }
 {
-    let sign = current_of(t, j, k);
-    let whole = current_of(t, j, k + 1);
-    let power = current_of(t, j, k + 2);
-    Decimal {
-        negative: sign == 1,
-        whole,
-        tens: power_of(power),
-    }
+    decimal_slots(t, j, before(count_of(t, j)), k)
 }
 
 // Whether an entry of the current table has a number.

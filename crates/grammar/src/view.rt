@@ -1,13 +1,15 @@
 // What can be asked of the records in the lent cells, and writing into them.
 use crate::state::Act;
+use number::decimal::Decimal;
 use records::Section;
 ghost use mathlib.Core.Path.{_≡_};
-ghost use Prim.Native.Nat.{_-_};
+ghost use Prim.Native.Nat.{_-_, min};
 ghost use mathlib.Core.List.{[], _∷_};
 ghost use lib.ListN.{take};
+ghost use Rattle.number.specs.Told.{scaled};
 ghost use Rattle.records.specs.Cells.{sectionIn, countIn, slotIn};
 ghost use Rattle.grammar.specs.Sections.{sections};
-ghost use Rattle.grammar.specs.Move.{viewIn, current, values, putsIn, appliedIn};
+ghost use Rattle.grammar.specs.Move.{viewIn, current, decimalSlots, values, putsIn, appliedIn};
 
 // The sections, and none.
 pub const FILE: u8 = 0;
@@ -67,7 +69,7 @@ pub fn slot_of(t: &[u64], j: u8, i: u16, k: u16) -> u64
 }
 
 // The number before n, 0 before 0.
-fn before(n: u16) -> u16
+pub fn before(n: u16) -> u16
     ensures { λ r. ⌜ r ≡ n - 1 ⌝ }
 {
     if n == 0 { 0 } else { n - 1 }
@@ -78,6 +80,28 @@ pub fn current_of(t: &[u64], j: u8, k: u16) -> u64
     ensures { λ r. ⌜ r ≡ current (viewIn (now (t .entry))) j k ⌝ }
 {
     slot_of(t, j, before(count_of(t, j)), k)
+}
+
+// At most 7, as a power of ten.
+fn power_of(n: u64) -> u32
+    ensures { λ r. ⌜ r ≡ min n 7 ⌝ }
+{
+    if n < 7 { n as u32 } else { 7 }
+}
+
+// The decimal in three slots of record i of section j.
+pub fn decimal_slots(t: &[u64], j: u8, i: u16, k: u8) -> Decimal
+    ensures { λ r. ⌜ scaled r ≡ decimalSlots (viewIn (now (t .entry))) j i k ⌝ }
+{
+    let at = k as u16;
+    let sign = slot_of(t, j, i, at);
+    let whole = slot_of(t, j, i, at + 1);
+    let power = slot_of(t, j, i, at + 2);
+    Decimal {
+        negative: sign == 1,
+        whole,
+        tens: power_of(power),
+    }
 }
 
 // At most two numbers into record i of a section from slot k on.

@@ -1,15 +1,13 @@
 -- Conversions of methods, by the branches that the code takes.
-use Prim.Native.Nat.{ℕ, zero, suc, _+_, _-_, _≤_, _<_, min}
+use Prim.Native.Nat.{ℕ, zero, suc, _+_, _-_, _≤_, _<_}
 use mathlib.Core.Path.{_≡_, refl, sym, _∙_, ap}
 use mathlib.Core.List.{List}
 use mathlib.Core.Bool.{Bool, true, false, cond}
 use native.Mathlib.Omega.{arith}
 use borrow.Author.Needs.{needs}
 use borrow.Author.Tests.{eq-eqb, ne-eqb}
-use lib.Dec.{eqb}
 use Rattle.text.specs.Answer as text
 use Rattle.number.specs.Answer.{Answer, given, refused}
-use Rattle.number.specs.Decimal.{Scaled}
 use Rattle.number.specs.Form.{isGiven}
 use Rattle.number.specs.Told.{scaled}
 use Rattle.number.specs.declared.decimal.Decimal.{Decimal}
@@ -21,12 +19,6 @@ use Rattle.convert.specs.declared.method.MethodAnswer.the-variants as answer
 use Rattle.grammar.specs.Sections.{method}
 use Rattle.grammar.specs.Move.{View}
 use Rattle.methods.specs.Methods.{decimalAt, linearAt, ratFuncAt, coefficients, convertsFrom, converts}
-
-pub decimal-is : (v : View) (i k s w p q : ℕ) → s ≡ v .slots method i k → w ≡ v .slots method i (k + 1) → p ≡ v .slots method i (k + 2) → q ≡ min p 7
-    → _≡_ {A = Scaled} (record { negative = eqb s 1; whole = w; tens = q }) (decimalAt v i k)
-decimal-is v i k s w p q a b c d = rw (a, b, d, c)
-
-pub ruleset decimals = (decimal-is, needs)
 
 pub linear-is : (v : View) (i : ℕ) (a b : Decimal) (r : MethodAnswer) → scaled a ≡ decimalAt v i 19 → scaled b ≡ decimalAt v i 22 → toldMethod r ≡ linearOf (scaled a) (scaled b) → toldMethod r ≡ linearAt v i
 unfolding linearAt

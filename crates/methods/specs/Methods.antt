@@ -1,5 +1,5 @@
 -- Conversions: "then conversions", 10 at the method's name. Methods that nothing uses are judged too.
-use Prim.Native.Nat.{ℕ, zero, suc, _+_, min}
+use Prim.Native.Nat.{ℕ, zero, suc}
 use mathlib.Core.Bool.{Bool, true, false, cond}
 use lib.Dec.{eqb}
 use Rattle.text.specs.Answer as text
@@ -10,13 +10,13 @@ use Rattle.convert.specs.Method.{ratFunc, linearOf, identicalOf}
 use Rattle.convert.specs.declared.method.Coefficients.{Coefficients}
 use Rattle.grammar.specs.Codes.{LINEAR, RAT-FUNC}
 use Rattle.grammar.specs.Sections.{method}
-use Rattle.grammar.specs.Move.{View}
+use Rattle.grammar.specs.Move.{View, decimalSlots}
 use Rattle.methods.specs.declared.Converted.{Converted}
 use Rattle.methods.specs.declared.Converted.the-variants as variant
 
--- the decimal in three slots of method i (a decimal's power of ten is at most 6)
+-- the decimal in three slots of method i
 abbrev pub decimalAt : View → ℕ → ℕ → Scaled
-decimalAt v i k = record { negative = eqb (v .slots method i k) 1; whole = v .slots method i (k + 1); tens = min (v .slots method i (k + 2)) 7 }
+decimalAt v i k = decimalSlots v method i k
 
 -- "LINEAR with COEFFS_LINEAR": a and b; "RAT_FUNC with COEFFS": b, c, e, f
 unfoldable pub linearAt : View → ℕ → Answer Coefficients

@@ -5,12 +5,4 @@ use Rattle.grammar.proofs.ParameterLaws.{decimals}
 
 pub decimal-at-spec : {M : Type 1} → statement M
 decimal-at-spec =
-    tie.close
-    (tie.spec
-    (λ c κs. search decimals)
-    (λ c. search decimals)
-    (λ c κs. search decimals)
-    (λ c. search decimals)
-    (λ c κs. search decimals)
-    (λ c κs. search decimals)
-    (λ c. search decimals))
+    tie.close (tie.spec (λ c κs. search decimals) (λ c κs. search decimals) (λ c κs. search decimals) (λ c. search decimals))

@@ -5,3 +5,5 @@ pub mod ParameterLaws
 pub mod Cells
 pub mod KeywordLaws
 pub mod ReadLaws
+pub mod CodesAre
+pub mod Examples

@@ -1,5 +1,6 @@
-// Document 01's points P1 to P9, run through the proved functions and printed, a point to a line.
+// Document 01's points P1 to P10, run through the proved functions and printed, a point to a line.
 use cell::kind::SWORD;
+use cell::kind::UBYTE;
 use cell::kind::UWORD;
 use cell::raw::fits_raw;
 use cell::raw::read_raw;
@@ -19,6 +20,14 @@ use libc::STDOUT_FILENO;
 use number::decimal::Decimal;
 use number::decimal::DecimalAnswer;
 use number::decimal::decimal_of;
+use place::judge::Judged;
+use place::judge::judge_object;
+use place::order::Aligns;
+use place::order::Entry;
+use place::order::Layout;
+use place::rules::Axis;
+use place::rules::Need;
+use place::walk::Ground;
 
 // The decimal that a text writes, 0 where it writes none.
 fn decimal(s: &[u8]) -> Decimal {
@@ -119,6 +128,78 @@ fn fourth() -> MethodAnswer {
     rat_func(decimal(b"0"), decimal(b"60"), decimal(b"1"), decimal(b"0"))
 }
 
+// A part of a layout.
+fn part(position: u16, kind: u64) -> Entry {
+    Entry {
+        present: true,
+        position: position,
+        kind: kind,
+    }
+}
+
+// A part that a layout has not.
+fn no_part() -> Entry {
+    Entry {
+        present: false,
+        position: 0,
+        kind: 0,
+    }
+}
+
+// What a CURVE needs: an axis of at most 256 points, and values.
+fn curve() -> Need {
+    Need {
+        values: true,
+        x: Axis {
+            stored: true,
+            most: 256,
+            points: 0,
+        },
+        y: Axis {
+            stored: false,
+            most: 1,
+            points: 1,
+        },
+    }
+}
+
+// Prints an address.
+fn print_address(at: u64) {
+    print(b" 0x");
+    io::print_hex(STDOUT_FILENO, at, 4);
+}
+
+// Prints where P10's CURVE has its axis and its values in an image from 0x1000 on, and how many points.
+fn stands(image: &[u8]) {
+    let layout = Layout {
+        values: part(3, UBYTE),
+        x: part(2, UWORD),
+        y: no_part(),
+        nx: part(1, UBYTE),
+        ny: no_part(),
+    };
+    let ground = Ground {
+        address: 0x1001,
+        base: 0x1000,
+        first: false,
+        aligns: Aligns {
+            byte: 0,
+            word: 0,
+            long: 0,
+        },
+    };
+    let answer = judge_object(image, ground, curve(), layout, 0);
+    match answer {
+        Judged::Stands(s) => {
+            print_address(s.places.x);
+            print_address(s.places.values);
+            print(b" ");
+            io::print_decimal(STDOUT_FILENO, s.places.cx as u64);
+        }
+        Judged::Refused { no } => print_refusal(no),
+    }
+}
+
 fn main() {
     print(b"P1");
     shown(first(), 11800);
@@ -148,5 +229,8 @@ fn main() {
     print_whole(read_raw(b"\x2E\x18", 0, UWORD, true, 0));
     print(b" ");
     print_whole(read_raw(b"\x18\x2E", 0, UWORD, false, 0));
+    print(b"\nP10");
+    stands(b"\x00\x03\x00\x00\x00\x00\x00\x00\x00\x00\x00");
+    stands(b"\x00\x03\x00\x00\x00\x00\x00\x00\x00\x00");
     print(b"\n");
 }

@@ -1,0 +1,9 @@
+-- Laws that belong to no one function.
+pub mod Orders
+pub mod Rises
+pub mod Aligns
+pub mod Counts
+pub mod Steps
+pub mod Weights
+pub mod Accepted
+pub mod Examples

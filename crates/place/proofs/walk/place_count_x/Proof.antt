@@ -1,0 +1,15 @@
+-- `place::walk::place_count_x` meets its contract. Assumes nothing.
+use borrow.Author.Needs.{needs}
+use Rattle.place.proofs.Steps.{counts-placed}
+use Rattle.place.proofs.walk.place_count_x.Statement.{statement}
+use Rattle.place.proofs.walk.place_count_x.Tie as tie
+
+pub place-count-x-spec : {M : Type 1} → statement M
+place-count-x-spec =
+    tie.close
+    (tie.spec
+    (λ c. search needs)
+    (λ c. search needs)
+    (λ c. search needs)
+    (λ c. search counts-placed)
+    (λ c. search counts-placed))

@@ -1,0 +1,7 @@
+// Where an object's parts stand, and whether it may: layouts, alignment, stored counts, the image's end.
+mod align;
+mod inside;
+pub mod judge;
+pub mod order;
+pub mod rules;
+pub mod walk;

@@ -2,26 +2,19 @@
 use Prim.Native.Nat.{ℕ, zero, suc, _≤_, _<_}
 use mathlib.Core.Path.{_≡_, refl, sym, _∙_, ap}
 use mathlib.Core.List.{List, [], _∷_}
-use mathlib.Core.Bool.{Bool, true, false, _&&_, false≢true}
+use mathlib.Core.Bool.{Bool, true, _&&_}
 use native.Mathlib.Omega.{arith}
 use borrow.Author.Needs.{needs}
 use borrow.Author.Tests.{leb-true}
 use lib.Dec.{leb}
 use lib.ListN.{length, getD, List·getD-eq-default}
+use Rattle.text.proofs.Within.{and-left, and-right}
 use Rattle.grammar.specs.Rows.{rows, needed, rowCells, paramCells, limitCells, needCells, rowCell, paramCell, limitCell, needCell}
 
 -- no row is longer than w: a test that antt computes
 abbrev narrow : ℕ → List (List ℕ) → Bool
 narrow w [] = true
 narrow w (r ∷ rs) = leb (length r) w && narrow w rs
-
-and-left : (a b : Bool) → (a && b) ≡ true → a ≡ true
-and-left true b e = refl
-and-left false b e = e
-
-and-right : (a b : Bool) → (a && b) ≡ true → b ≡ true
-and-right true b e = e
-and-right false b e = absurd (false≢true e)
 
 beside : (w : ℕ) (t : List (List ℕ)) → narrow w t ≡ true → (i f : ℕ) → w ≤ f → 0 ≡ getD (getD t i []) f 0
 beside w [] h i f l = refl

@@ -9,8 +9,8 @@ use Rattle.text.specs.Answer as text
 use Rattle.records.specs.Records.{count, slot, put, add, empty}
 use Rattle.records.specs.Cells.{room, encode, sectionIn, countIn, slotIn, putIn, addIn}
 use Rattle.records.proofs.Encode.{Good, count-encode, slot-encode, put-encode, add-encode, good-put, good-add, none-good, none-encode}
-use Rattle.grammar.specs.Codes.{FILE}
-use Rattle.grammar.specs.Sections.{sections, file}
+use Rattle.rows.specs.Codes.{FILE}
+use Rattle.rows.specs.Sections.{sections, file}
 use Rattle.grammar.specs.Move.{View, view, viewIn, state, items, values, puts, putsIn, added, addedIn, applied, appliedIn, Move, went, over, refused}
 use Rattle.grammar.specs.Read.{move, following, readFrom, start, read}
 use Rattle.grammar.specs.Out.{Out, accepted, left, followingIn, readFromIn, readIn}

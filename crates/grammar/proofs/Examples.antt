@@ -19,8 +19,8 @@ use Rattle.convert.specs.Limit.{formed, atMost}
 use Rattle.words.specs.Row.{word, bytes, same, kindIn}
 use Rattle.words.specs.Table.{rows as words}
 use Rattle.words.specs.Class.{classOf, classAt}
-use Rattle.grammar.specs.Sections.{sections}
-use Rattle.grammar.specs.Rows.{rows, needed, rowCells, paramCells, limitCells, needCells, rowCell, paramCell, limitCell, needCell}
+use Rattle.rows.specs.Sections.{sections}
+use Rattle.rows.specs.Rows.{rows, needed, rowCells, paramCells, limitCells, needCells, rowCell, paramCell, limitCell, needCell}
 use Rattle.grammar.specs.Move.{applied}
 use Rattle.grammar.specs.Parameter.{wrong, keeping, takenWhole, takenDecimal, takenNumber, findFrom, takenNew, takenName, takenText, taken}
 use Rattle.grammar.specs.Keyword.{rowFrom, rowOf, oneMore, stands, plainRow, skips, opens, allMet, ends, item, afterBegin, afterEnd}

@@ -17,15 +17,15 @@ use Rattle.words.specs.Class.{classAt}
 use Rattle.words.specs.Told.{toldClass}
 use Rattle.words.specs.declared.class.Class.{Class}
 use Rattle.words.specs.declared.class.Class.the-variants as class
-use Rattle.grammar.specs.Codes.{FILE}
-use Rattle.grammar.specs.Rows.{rowCells, rowCell, needCells, needCell}
+use Rattle.rows.specs.Codes.{FILE}
+use Rattle.rows.specs.Rows.{rowCells, rowCell, needCells, needCell}
 use Rattle.grammar.specs.Move.{View, current, state, items, begun, ended, finished, idle, went, refused, moved}
 use Rattle.grammar.specs.Parameter.{wrong}
 use Rattle.grammar.specs.Keyword.{rowFrom, rowOf, mayStand, axesOf, limitOf, isOften, oneMore, counting, stands, plainRow, homeOf, bareWord, levelsIn, ofSkip, skips, opens, begunWord, isMet, allMet, ends, holderOf, closes, endedWord, item, afterBegin, afterEnd}
 use Rattle.grammar.specs.declared.state.State.{State}
 use Rattle.grammar.specs.declared.state.Act.{Act}
 use Rattle.grammar.specs.declared.state.Move as code
-use Rattle.grammar.proofs.TableLaws.{row-count, need-count}
+use Rattle.rows.proofs.TableLaws.{row-count, need-count}
 
 -- ---- rows
 

@@ -27,8 +27,8 @@ use Rattle.convert.specs.Limit.{atMost}
 use Rattle.records.specs.Records.{mostOf}
 use Rattle.records.specs.Cells.{sectionIn, countIn}
 use Rattle.records.specs.declared.Section.{Section}
-use Rattle.grammar.specs.Sections.{sections, entry}
-use Rattle.grammar.specs.Rows.{paramCell, limitCell}
+use Rattle.rows.specs.Sections.{sections, entry}
+use Rattle.rows.specs.Rows.{paramCell, limitCell}
 use Rattle.grammar.specs.Move.{View, viewIn, current, decimalSlots, state, items, idle, writes, Move, went, refused, moved}
 use Rattle.grammar.specs.Parameter.{wrong, kindOf, slotOf, nextOf, secOf, lowOf, highOf, after, keeping, takenWhole, takenPairs, signOf, decimalIn, hasEntry, twice, newRecord, takenEntry, takenDecimal, ofNumber, ofPairs, ofWhole, ofDecimal, takenNumber, foundAt, find, takenNew, ofChoice, takenName, afterText, takenText, taken}
 use Rattle.grammar.specs.declared.state.State.{State}

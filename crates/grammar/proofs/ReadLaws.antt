@@ -16,7 +16,7 @@ use Rattle.text.specs.declared.cursor.Token.{Token}
 use Rattle.text.specs.declared.cursor.Token.the-variants as token
 use Rattle.records.specs.Cells.{room, encode, sectionIn, place, countIn, putIn, addIn}
 use Rattle.records.specs.declared.Section.{Section}
-use Rattle.grammar.specs.Sections.{sections}
+use Rattle.rows.specs.Sections.{sections}
 use Rattle.grammar.specs.Move.{View, viewIn, state, items, values, putsIn, addedIn, appliedIn, Move, went, over, refused, moved}
 use Rattle.grammar.specs.Parameter.{wrong, taken}
 use Rattle.grammar.specs.Keyword.{item, afterBegin, afterEnd}

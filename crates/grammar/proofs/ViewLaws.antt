@@ -13,7 +13,7 @@ use lib.ListN.{length, take}
 use lib.Seq.{take-nil}
 use Rattle.records.specs.Cells.{sectionIn, baseIn, countIn, slotIn, putIn, addIn}
 use Rattle.records.specs.declared.Section.{Section}
-use Rattle.grammar.specs.Sections.{sections}
+use Rattle.rows.specs.Sections.{sections}
 use Rattle.grammar.specs.Move.{viewIn, current, decimalSlots, values, putsIn, appliedIn}
 use Rattle.grammar.specs.declared.state.Act.{Act}
 

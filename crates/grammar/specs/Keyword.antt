@@ -9,10 +9,10 @@ use Rattle.text.specs.Answer as piece
 use Rattle.text.specs.Skip.{skipBlock}
 use Rattle.words.specs.Kind as word
 use Rattle.words.specs.Class.{classAt}
-use Rattle.grammar.specs.Codes.{FILE, ANY, PROJECT, MODULE, CHARACTERISTIC, AXIS-DESCR, CURVE, MAP}
-use Rattle.grammar.specs.Sections.{object, axis, none}
-use Rattle.grammar.specs.Rows.{rowCells, rowCell, needCells, needCell}
-use Rattle.grammar.specs.Row.{outside}
+use Rattle.rows.specs.Codes.{FILE, ANY, PROJECT, MODULE, CHARACTERISTIC, AXIS-DESCR, CURVE, MAP}
+use Rattle.rows.specs.Sections.{object, axis, none}
+use Rattle.rows.specs.Rows.{rowCells, rowCell, needCells, needCell}
+use Rattle.rows.specs.Row.{outside}
 use Rattle.grammar.specs.Move.{View, current, state, items, begun, ended, finished, idle, writes, Move, went, refused}
 use Rattle.grammar.specs.Parameter.{wrong, aName, aBegin, anEnd}
 use Rattle.grammar.specs.declared.state.State.{State}

@@ -8,7 +8,7 @@ use Rattle.text.specs.declared.cursor.Cursor.{Cursor}
 use Rattle.records.specs.Records.{count, slot, put, add}
 use Rattle.records.specs.Cells.{sectionIn, countIn, slotIn, putIn, addIn}
 use Rattle.records.specs.declared.Section.{Section}
-use Rattle.grammar.specs.Sections.{sections, none}
+use Rattle.rows.specs.Sections.{sections, none}
 use Rattle.grammar.specs.declared.state.State.{State}
 use Rattle.grammar.specs.declared.state.Act.{Act}
 use Rattle.grammar.specs.declared.state.Move as code

@@ -7,8 +7,8 @@ use lib.Dec.{ltb}
 use Rattle.text.specs.Answer.{Answer, given}
 use Rattle.text.specs.Answer as text
 use Rattle.records.specs.Cells.{room, encode, sectionIn, addIn}
-use Rattle.grammar.specs.Codes.{FILE}
-use Rattle.grammar.specs.Sections.{sections, file}
+use Rattle.rows.specs.Codes.{FILE}
+use Rattle.rows.specs.Sections.{sections, file}
 use Rattle.grammar.specs.Move.{View, viewIn, state, items, appliedIn, Move, went, over, refused}
 use Rattle.grammar.specs.Read.{move, read}
 use Rattle.grammar.specs.declared.state.State.{State}

@@ -16,8 +16,8 @@ use Rattle.convert.specs.Limit.{atMost}
 use Rattle.words.specs.Kind as word
 use Rattle.words.specs.Class.{classAt}
 use Rattle.records.specs.Records.{mostOf}
-use Rattle.grammar.specs.Sections.{sections, entry, table, none}
-use Rattle.grammar.specs.Rows.{paramCell, limitCell}
+use Rattle.rows.specs.Sections.{sections, entry, table, none}
+use Rattle.rows.specs.Rows.{paramCell, limitCell}
 use Rattle.grammar.specs.Move.{View, current, decimalSlots, state, items, idle, writes, Move, went, refused}
 use Rattle.grammar.specs.declared.names.Found.{Found}
 use Rattle.grammar.specs.declared.names.Found.the-variants as found

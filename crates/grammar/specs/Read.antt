@@ -8,8 +8,8 @@ use Rattle.text.specs.Answer.{Answer, given, Piece, piece, finish, kindNumber}
 use Rattle.text.specs.Answer as text
 use Rattle.text.specs.Token.{nextToken}
 use Rattle.records.specs.Records.{add, empty}
-use Rattle.grammar.specs.Codes.{FILE}
-use Rattle.grammar.specs.Sections.{sections, file}
+use Rattle.rows.specs.Codes.{FILE}
+use Rattle.rows.specs.Sections.{sections, file}
 use Rattle.grammar.specs.Move.{View, view, state, items, begun, ended, finished, applied, Move, went, over, refused}
 use Rattle.grammar.specs.Parameter.{wrong, taken}
 use Rattle.grammar.specs.Keyword.{item, afterBegin, afterEnd}

@@ -3,6 +3,5 @@ mod keyword;
 pub mod names;
 mod parameter;
 pub mod read;
-mod rows;
 pub mod state;
 pub mod view;

@@ -1,8 +1,8 @@
 // A token where a parameter is expected.
 use crate::names::Found;
 use crate::names::find;
-use crate::rows::limit_cell;
-use crate::rows::param_cell;
+use rows::limit_cell;
+use rows::param_cell;
 use crate::state::Act;
 use crate::state::ITEMS;
 use crate::state::Move;

@@ -8,7 +8,7 @@ ghost use mathlib.Core.List.{[], _∷_};
 ghost use lib.ListN.{take};
 ghost use Rattle.number.specs.Told.{scaled};
 ghost use Rattle.records.specs.Cells.{sectionIn, countIn, slotIn};
-ghost use Rattle.grammar.specs.Sections.{sections};
+ghost use Rattle.rows.specs.Sections.{sections};
 ghost use Rattle.grammar.specs.Move.{viewIn, current, decimalSlots, values, putsIn, appliedIn};
 
 // The sections, and none.

@@ -16,7 +16,7 @@ use Rattle.convert.specs.Told.{toldMethod}
 use Rattle.convert.specs.declared.method.Coefficients.{Coefficients}
 use Rattle.convert.specs.declared.method.MethodAnswer.{MethodAnswer}
 use Rattle.convert.specs.declared.method.MethodAnswer.the-variants as answer
-use Rattle.grammar.specs.Sections.{method}
+use Rattle.rows.specs.Sections.{method}
 use Rattle.grammar.specs.Move.{View}
 use Rattle.methods.specs.Methods.{decimalAt, linearAt, ratFuncAt, coefficients, convertsFrom, converts}
 

@@ -8,8 +8,8 @@ use Rattle.number.specs.Decimal.{Scaled}
 use Rattle.number.specs.Form.{isGiven}
 use Rattle.convert.specs.Method.{ratFunc, linearOf, identicalOf}
 use Rattle.convert.specs.declared.method.Coefficients.{Coefficients}
-use Rattle.grammar.specs.Codes.{LINEAR, RAT-FUNC}
-use Rattle.grammar.specs.Sections.{method}
+use Rattle.rows.specs.Codes.{LINEAR, RAT-FUNC}
+use Rattle.rows.specs.Sections.{method}
 use Rattle.grammar.specs.Move.{View, decimalSlots}
 use Rattle.methods.specs.declared.Converted.{Converted}
 use Rattle.methods.specs.declared.Converted.the-variants as variant

@@ -6,4 +6,5 @@ pub mod Counts
 pub mod Steps
 pub mod Weights
 pub mod Accepted
+pub mod Stored
 pub mod Examples

@@ -6,8 +6,8 @@ use lib.ListN.{length, getD}
 use lib.Dec.{ltb, eqb}
 use Rattle.text.specs.Answer.{Answer, given, refused}
 use Rattle.text.specs.Bytes.{spells}
-use Rattle.grammar.specs.Codes.{AXIS-PTS, MEASUREMENT}
-use Rattle.grammar.specs.Sections.{method, table, layout, object, axis}
+use Rattle.rows.specs.Codes.{AXIS-PTS, MEASUREMENT}
+use Rattle.rows.specs.Sections.{method, table, layout, object, axis}
 use Rattle.grammar.specs.Move.{View}
 use Rattle.grammar.specs.Parameter.{find}
 use Rattle.refer.specs.declared.Row.{Row}

@@ -1,9 +1,9 @@
 use borrow.Author.Needs.{needs}
 use mathlib.Core.Path.{refl}
-use Rattle.grammar.specs.Rows.{paramCell, paramCells, rows}
-use Rattle.grammar.proofs.rows.param_cell.Statement.{statement}
-use Rattle.grammar.proofs.rows.param_cell.Tie as tie
-use Rattle.grammar.proofs.TableLaws.{tables}
+use Rattle.rows.specs.Rows.{paramCell, paramCells, rows}
+use Rattle.rows.proofs.param_cell.Statement.{statement}
+use Rattle.rows.proofs.param_cell.Tie as tie
+use Rattle.rows.proofs.TableLaws.{tables}
 
 -- src/rows.rt:190:13
 returns : tie.Need-returns

@@ -1,7 +1,7 @@
 -- A row of the grammar: where a keyword stands and what follows it.
 use Prim.Native.Nat.{ℕ}
 use mathlib.Core.List.{List, []}
-use Rattle.grammar.specs.Sections.{file}
+use Rattle.rows.specs.Sections.{file}
 
 -- a parameter: its kind, the slot that it goes to (0: it is not kept), the least and the greatest number or choice
 pub record Param : Type 0 where

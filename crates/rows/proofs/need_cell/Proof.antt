@@ -1,9 +1,9 @@
 use borrow.Author.Needs.{needs}
 use mathlib.Core.Path.{refl}
-use Rattle.grammar.specs.Rows.{needCell, needCells, needed}
-use Rattle.grammar.proofs.rows.need_cell.Statement.{statement}
-use Rattle.grammar.proofs.rows.need_cell.Tie as tie
-use Rattle.grammar.proofs.TableLaws.{tables}
+use Rattle.rows.specs.Rows.{needCell, needCells, needed}
+use Rattle.rows.proofs.need_cell.Statement.{statement}
+use Rattle.rows.proofs.need_cell.Tie as tie
+use Rattle.rows.proofs.TableLaws.{tables}
 
 -- src/rows.rt:220:13
 returns : tie.Need-returns

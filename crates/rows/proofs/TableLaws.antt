@@ -9,7 +9,7 @@ use borrow.Author.Tests.{leb-true}
 use lib.Dec.{leb}
 use lib.ListN.{length, getD, List·getD-eq-default}
 use Rattle.text.proofs.Within.{and-left, and-right}
-use Rattle.grammar.specs.Rows.{rows, needed, rowCells, paramCells, limitCells, needCells, rowCell, paramCell, limitCell, needCell}
+use Rattle.rows.specs.Rows.{rows, needed, rowCells, paramCells, limitCells, needCells, rowCell, paramCell, limitCell, needCell}
 
 -- no row is longer than w: a test that antt computes
 abbrev narrow : ℕ → List (List ℕ) → Bool

@@ -1,6 +1,6 @@
 // The grammar's rows as numbers: specs/Rows.antt has them in words, and the proofs compute that they are the same.
 ghost use mathlib.Core.Path.{_≡_};
-ghost use Rattle.grammar.specs.Rows.{rowCell, paramCell, limitCell, needCell};
+ghost use Rattle.rows.specs.Rows.{rowCell, paramCell, limitCell, needCell};
 
 // How many rows and needs there are.
 pub const ROW_COUNT: u8 = 45;

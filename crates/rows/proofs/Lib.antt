@@ -1,0 +1,3 @@
+-- Laws of the tables of numbers.
+pub mod TableLaws
+pub mod CodesAre

@@ -34,7 +34,7 @@ module _ (n : ℕ) (a : Act) (d : List (List (List ℕ))) (g : Good sections d) 
   added-good : Good sections (added a d)
   added-good = good-add sections n d g (a .adds)
 
-  good-applied : Good sections (applied a d)
+  pub good-applied : Good sections (applied a d)
   unfolding applied
   good-applied = good-puts (added a d) added-good (a .sec) (count (added a d) (a .sec) - 1) (a .slot) (values a)
 

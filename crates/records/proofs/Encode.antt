@@ -116,7 +116,7 @@ wide-set w [] i r e h = h
 wide-set w (x ∷ xs) zero r e h = (e, h .1)
 wide-set w (x ∷ xs) (suc i) r e h = (h .0, wide-set w xs i r e (h .1))
 
-wide-at : (w : ℕ) (d : List (List ℕ)) (i : ℕ) → Wide w d → i < length d → length (getD d i []) ≡ w
+pub wide-at : (w : ℕ) (d : List (List ℕ)) (i : ℕ) → Wide w d → i < length d → length (getD d i []) ≡ w
 wide-at w [] i h l = absurd (omega arith)
 wide-at w (x ∷ xs) zero h l = h .0
 wide-at w (x ∷ xs) (suc i) h l = wide-at w xs i (h .1) (omega arith)
@@ -132,7 +132,7 @@ fit-past (s ∷ ss) [] j f h = absurd f
 fit-past (s ∷ ss) (d ∷ ds) zero f h = absurd (omega arith)
 fit-past (s ∷ ss) (d ∷ ds) (suc j) f h = fit-past ss ds j (f .2) (omega arith)
 
-fit-wide : (ss : List Sec) (ds : List (List (List ℕ))) (j : ℕ) → Fit ss ds → Wide (widthOf ss j) (getD ds j [])
+pub fit-wide : (ss : List Sec) (ds : List (List (List ℕ))) (j : ℕ) → Fit ss ds → Wide (widthOf ss j) (getD ds j [])
 fit-wide [] ds j f = rw f tt
 fit-wide (s ∷ ss) [] j f = absurd f
 fit-wide (s ∷ ss) (d ∷ ds) zero f = f .0

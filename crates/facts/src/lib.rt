@@ -1,0 +1,1 @@
+// What is true of the records of every description that was read: theorems alone, in specs and proofs.

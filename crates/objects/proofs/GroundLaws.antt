@@ -1,0 +1,43 @@
+-- The ground of an object, by the branches that the code takes.
+use Prim.Native.Nat.{ℕ, min}
+use mathlib.Core.Path.{_≡_}
+use mathlib.Core.List.{List}
+use mathlib.Core.Bool.{Bool}
+use borrow.Author.Tests.{eq-eqb, ne-eqb}
+use lib.Dec.{eqb}
+use Rattle.rows.specs.Sections.{file, layout, object}
+use Rattle.grammar.specs.Move.{View}
+use Rattle.place.specs.declared.order.Aligns.{Aligns}
+use Rattle.place.specs.declared.walk.Ground.{Ground}
+use Rattle.objects.specs.Object.{layoutNumber, word, alignsOf, firstOf, groundOf}
+
+-- w is the layout's own word
+module _ (v : View) (l k c w : ℕ) (p : w ≡ v .slots layout l k) where
+  pub word-common : w ≡ 0 → (m r : ℕ) → m ≡ v .slots file 0 c → r ≡ min m 255 → r ≡ word v l k c
+  unfolding word
+  word-common h m r pm pr = rw (← p, eq-eqb w 0 h, pr, pm)
+
+  pub word-own : (w ≡ 0 → ⊥) → (r : ℕ) → r ≡ min w 255 → r ≡ word v l k c
+  unfolding word
+  word-own h r pr = rw (← p, ne-eqb w 0 h, pr)
+
+pub aligns-are : (v : View) (l a b c : ℕ) → a ≡ word v l 5 6 → b ≡ word v l 7 8 → c ≡ word v l 9 10 → _≡_ {A = Aligns} (record { byte = a; word = b; long = c }) (alignsOf v l)
+unfolding alignsOf
+aligns-are v l a b c pa pb pc = rw (pa, pb, pc)
+
+-- w is the object's own byte order
+module _ (v : View) (i w : ℕ) (p : w ≡ v .slots object i 20) where
+  pub first-common : w ≡ 0 → (m : ℕ) → m ≡ v .slots file 0 4 → eqb m 8 ≡ firstOf v i
+  unfolding firstOf
+  first-common h m pm = rw (← p, eq-eqb w 0 h, pm)
+
+  pub first-own : (w ≡ 0 → ⊥) → eqb w 8 ≡ firstOf v i
+  unfolding firstOf
+  first-own h = rw (← p, ne-eqb w 0 h)
+
+pub ground-is : (x : List ℕ) (v : View) (base i at address l : ℕ) (first : Bool) (aligns : Aligns) → at ≡ v .slots object i 5 → address ≡ min at 4294967295 → first ≡ firstOf v i
+    → l ≡ layoutNumber x v i → aligns ≡ alignsOf v l → _≡_ {A = Ground} (record { address = address; base = base; first = first; aligns = aligns }) (groundOf x v base i)
+unfolding groundOf
+ground-is x v base i at address l first aligns pt pa pf pl pw = rw (pa, pt, pf, pw, pl)
+
+pub ruleset grounds = (word-common, word-own, aligns-are, first-common, first-own, ground-is)

@@ -1,0 +1,71 @@
+// The ground that an object stands on: its address, its byte order, its alignment words.
+use crate::layout::layout_number;
+use crate::least::least8;
+use crate::least::least32;
+use grammar::view::FILE;
+use grammar::view::LAYOUT;
+use grammar::view::OBJECT;
+use grammar::view::slot_of;
+use place::order::Aligns;
+use place::walk::Ground;
+use words::codes::MSB_FIRST;
+ghost use mathlib.Core.Path.{_≡_};
+ghost use Rattle.grammar.specs.Move.{viewIn};
+ghost use Rattle.objects.specs.Object.{word, alignsOf, firstOf, groundOf};
+
+// The greatest alignment word.
+const ALIGNMENT: u8 = 255;
+
+// The greatest address.
+const ADDRESS: u32 = 4294967295;
+
+// An alignment word: slot k of layout l, else slot c of the file's record.
+fn word_of(t: &[u64], l: u16, k: u16, c: u16) -> u8
+    ensures { λ r. ⌜ r ≡ word (viewIn (now (t .entry))) l k c ⌝ }
+{
+    let own = slot_of(t, LAYOUT, l, k);
+    if own == 0 {
+        let common = slot_of(t, FILE, 0, c);
+        return least8(common, ALIGNMENT);
+    }
+    least8(own, ALIGNMENT)
+}
+
+// The alignment words for layout l.
+fn aligns_of(t: &[u64], l: u16) -> Aligns
+    ensures { λ r. ⌜ r ≡ alignsOf (viewIn (now (t .entry))) l ⌝ }
+{
+    let byte = word_of(t, l, 5, 6);
+    let word = word_of(t, l, 7, 8);
+    let long = word_of(t, l, 9, 10);
+    Aligns { byte, word, long }
+}
+
+// Whether object i's byte order is MSB_FIRST: its own, else MOD_COMMON's, else MSB_LAST.
+pub fn first_of(t: &[u64], i: u16) -> bool
+    ensures { λ r. ⌜ r ≡ firstOf (viewIn (now (t .entry))) i ⌝ }
+{
+    let own = slot_of(t, OBJECT, i, 20);
+    if own == 0 {
+        let common = slot_of(t, FILE, 0, 4);
+        return common == (MSB_FIRST as u64);
+    }
+    own == (MSB_FIRST as u64)
+}
+
+// The ground of object i.
+pub fn ground_of(x: &[u8], t: &[u64], base: u32, i: u16) -> Ground
+    ensures { λ r. ⌜ r ≡ groundOf (now (x .entry)) (viewIn (now (t .entry))) base i ⌝ }
+{
+    let at = slot_of(t, OBJECT, i, 5);
+    let address = least32(at, ADDRESS);
+    let first = first_of(t, i);
+    let l = layout_number(x, t, i);
+    let aligns = aligns_of(t, l);
+    Ground {
+        address,
+        base,
+        first,
+        aligns,
+    }
+}

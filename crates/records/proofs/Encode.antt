@@ -46,7 +46,7 @@ joined-add : (w : ℕ) (d : List (List ℕ)) → joined (d ++ (replicate w 0 ∷
 joined-add w [] = append-nil (replicate w 0)
 joined-add w (r ∷ rs) = ap (λ (l : List ℕ). r ++ l) (joined-add w rs) ∙ sym (append-assoc r (joined rs) (replicate w 0))
 
-length-joined : (w : ℕ) (d : List (List ℕ)) → Wide w d → length (joined d) ≡ w * length d
+pub length-joined : (w : ℕ) (d : List (List ℕ)) → Wide w d → length (joined d) ≡ w * length d
 length-joined w [] h = omega arith
 length-joined w (r ∷ rs) h = length-append r (joined rs) ∙ omega (arith, h .0, length-joined w rs (h .1))
 
@@ -55,7 +55,7 @@ length-part s d h l =
     ap suc (length-append (joined d) _)
     ∙ omega (arith, length-joined (s .width) d h, length-replicate (s .width * s .most - s .width * length d) (Prim.Native.Nat.zero), mul-le-mul-left (s .width) l)
 
-zeros : (m i : ℕ) → _≡_ {A = ℕ} (getD (replicate m 0) i 0) 0
+pub zeros : (m i : ℕ) → _≡_ {A = ℕ} (getD (replicate m 0) i 0) 0
 zeros m i = by-place (ltb i m) refl where
   by-place : (t : Bool) → ltb i m ≡ t → _≡_ {A = ℕ} (getD (replicate m 0) i 0) 0
   by-place true t = getD-replicate m i 0 0 (ltb-true i m t)
@@ -85,7 +85,7 @@ module _ (w m k : ℕ) (h : k < w) where
 
 -- ---- one section among several
 
-get-part : (z : List ℕ) (ss : List Sec) (ds : List (List (List ℕ))) (j i : ℕ) → Fit ss ds → j < length ss → i < size (getD ss j noSec)
+pub get-part : (z : List ℕ) (ss : List Sec) (ds : List (List (List ℕ))) (j i : ℕ) → Fit ss ds → j < length ss → i < size (getD ss j noSec)
     → getD (whole ss ds z) (baseIn ss j + i) 0 ≡ getD (part (getD ss j noSec) (getD ds j [])) i 0
 get-part z [] ds j i f p q = absurd (omega arith)
 get-part z (s ∷ ss) [] j i f p q = absurd f

@@ -1,0 +1,143 @@
+-- The numbers of groups and methods and the place of an element, by the branches that the code takes.
+use Prim.Native.Nat.{ℕ, _+_, _-_, _*_, _/_, _%_, _^_, _≤_, _<_, min}
+use mathlib.Core.Path.{_≡_, refl, sym}
+use mathlib.Core.List.{List}
+use mathlib.Core.Bool.{Bool, true, false, not, and-false}
+use native.Mathlib.Omega.{arith}
+use native.Mathlib.Nat.{mul-le-mul, mod-le, div-le-self, mod-zero, div-zero}
+use borrow.Author.Needs.{needs}
+use borrow.Author.Tests.{le-ltb, eq-eqb, ne-eqb}
+use mir.Syntax.{w32}
+use mir.Val.{Fits}
+use lib.Dec.{eqb}
+use lib.IntN.{ℤ}
+use Rattle.number.specs.Decimal.{Scaled}
+use Rattle.convert.specs.Whole.{signedOf}
+use Rattle.convert.specs.declared.method.Coefficients.{Coefficients}
+use Rattle.cell.specs.Kind.{shapeOf}
+use Rattle.cell.proofs.Shapes.{bytes-le}
+use Rattle.records.specs.Cells.{sectionIn, slotIn}
+use Rattle.tables.specs.Form.{sections, group, method, Tables, tablesIn, pastPoints, pastCoefficient, kind, first, place, x, y, wide, high, walk, forbidden, limit, coefficient, coefficients}
+use Rattle.tables.specs.Group.{position, elements, bytes, placeOf}
+
+module _ (t : List ℕ) (g : ℕ) where
+  pub first-is : (v : ℕ) → v ≡ slotIn t (sectionIn sections group) g 1 → eqb v 1 ≡ first (tablesIn t) g
+  first-is v p = rw p
+
+  pub forbidden-is : (v : ℕ) → v ≡ slotIn t (sectionIn sections group) g 10 → not (eqb v 0) ≡ forbidden (tablesIn t) g
+  forbidden-is v p = rw p
+
+  -- past a record's numbers there is nothing
+  slot-past : (k : ℕ) → 19 ≤ k → slotIn t (sectionIn sections group) g k ≡ 0
+  unfolding slotIn sections
+  slot-past k h = rw (le-ltb k 19 h, and-false)
+
+  pub limit-past : (k : ℕ) → 19 ≤ k → _≡_ {A = Scaled} (record { negative = false; whole = 0; tens = 0 }) (limit (tablesIn t) g k)
+  limit-past k h = rw (slot-past k h, slot-past (k + 1) (omega arith), slot-past (k + 2) (omega arith))
+
+  pub limit-is : (k s w p q : ℕ) → s ≡ slotIn t (sectionIn sections group) g k → w ≡ slotIn t (sectionIn sections group) g (k + 1)
+      → p ≡ slotIn t (sectionIn sections group) g (k + 2) → q ≡ min p 7 → _≡_ {A = Scaled} (record { negative = eqb s 1; whole = w; tens = q }) (limit (tablesIn t) g k)
+  limit-is k s w p q a b c d = rw (a, b, d, c)
+
+pub ruleset fields = (first-is, forbidden-is, limit-past, limit-is, needs)
+
+-- ---- how many
+
+few-points : (u : ℕ) → min u pastPoints ≤ 4097
+few-points u = omega arith
+
+-- no group has more elements than this, and their number fits
+pub elements-most : (T : Tables) (g : ℕ) → elements T g ≤ 16785409
+elements-most T g = mul-le-mul (few-points (T .slots group g 3)) (few-points (T .slots group g 4))
+
+module _ (T : Tables) (g a b : ℕ) (p : a ≡ x T g) (q : b ≡ y T g) where
+  pub elements-fit : Fits w32 (a * b)
+  elements-fit = rw (p, q) (record { fits = omega (arith, elements-most T g) })
+
+  pub elements-are : a * b ≡ elements T g
+  elements-are = rw (p, q)
+
+pub bytes-is : (T : Tables) (g k r : ℕ) → k ≡ kind T g → r ≡ shapeOf k .bytes → r ≡ bytes T g
+bytes-is T g k r p q = rw (q, p)
+
+pub ruleset many = (elements-fit, elements-are, bytes-is, needs)
+
+-- ---- where
+
+pub no-y : (i x : ℕ) → x ≡ 0 → 0 ≡ i / x
+no-y i x h = rw h (sym (div-zero i))
+
+pub no-x : (i x : ℕ) → x ≡ 0 → i ≡ i % x
+no-x i x h = rw h (sym (mod-zero i))
+
+pub ruleset split-points = (no-y, no-x, needs)
+
+-- a product of an index's point and a room
+small-product : (i a k : ℕ) → a ≤ i → i < 2 ^ 32 → k < 2 ^ 16 → a * k ≤ 2 ^ 32 * 2 ^ 16
+small-product i a k h p q = mul-le-mul {n₂ = 2 ^ 32} {m₂ = 2 ^ 16} (omega arith) (omega arith)
+
+module _ (w x wide high i : ℕ) where
+  -- a and b are the x and the y point of i
+  module _ (a b : ℕ) (p : a ≡ i % x) (q : b ≡ i / x) where
+    pub at-y-fastest : w ≡ 2 → a * high + b ≡ position w x wide high i
+    unfolding position
+    at-y-fastest h = rw (eq-eqb w 2 h, p, q)
+
+    pub at-listed : (w ≡ 2 → ⊥) → (w ≡ 1 → ⊥) → b * wide + a ≡ position w x wide high i
+    unfolding position
+    at-listed h l = rw (ne-eqb w 2 h, ne-eqb w 1 l, p, q)
+
+    pub column-fits : i < 2 ^ 32 → high < 2 ^ 16 → a * high + b ≤ 2 ^ 49
+    column-fits h l =
+        let c : a ≤ i = rw p (mod-le i x) in
+        let d : b ≤ i = rw q (div-le-self i x) in
+        omega (arith, small-product i a high c h l)
+
+    pub row-fits : i < 2 ^ 32 → wide < 2 ^ 16 → b * wide + a ≤ 2 ^ 49
+    row-fits h l =
+        let c : a ≤ i = rw p (mod-le i x) in
+        let d : b ≤ i = rw q (div-le-self i x) in
+        omega (arith, small-product i b wide d h l)
+
+  pub at-last : (w ≡ 2 → ⊥) → w ≡ 1 → x - 1 - i ≡ position w x wide high i
+  unfolding position
+  at-last h l = rw (ne-eqb w 2 h, eq-eqb w 1 l)
+
+  pub at-none : (w ≡ 2 → ⊥) → w ≡ 1 → x ≤ i → 0 ≡ position w x wide high i
+  unfolding position
+  at-none h l m = rw (ne-eqb w 2 h, eq-eqb w 1 l) (omega arith)
+
+  -- every position is small enough for the code
+  pub position-small : i < 2 ^ 32 → x < 2 ^ 16 → wide < 2 ^ 16 → high < 2 ^ 16 → position w x wide high i ≤ 2 ^ 49
+  unfolding position
+  position-small hi hx hw hh = by-walk (eqb w 2) (eqb w 1) refl refl where
+    by-walk : (c d : Bool) → eqb w 2 ≡ c → eqb w 1 ≡ d → position w x wide high i ≤ 2 ^ 49
+    by-walk true d p q = rw p (column-fits (i % x) (i / x) refl refl hi hh)
+    by-walk false true p q = rw (p, q) (omega arith)
+    by-walk false false p q = rw (p, q) (row-fits (i % x) (i / x) refl refl hi hw)
+
+pub ruleset positions = (at-y-fastest, at-listed, at-last, at-none, needs)
+
+module _ (T : Tables) (g i w a c d at h s : ℕ) (pw : w ≡ walk T g) (pa : a ≡ x T g) (pc : c ≡ wide T g) (pd : d ≡ high T g) (pt : at ≡ position w a c d i) (ph : h ≡ bytes T g) where
+  pub place-is : s ≡ place T g → s + h * at ≡ placeOf T g i
+  unfolding placeOf
+  place-is ps = rw (ps, ph, pt, pw, pa, pc, pd)
+
+  -- an element's bytes times its position
+  pub place-fits : i < 2 ^ 32 → a < 2 ^ 16 → c < 2 ^ 16 → d < 2 ^ 16 → h * at ≤ 2 ^ 51
+  place-fits hi ha hc hd =
+      let l : h ≤ 4 = rw ph (bytes-le (kind T g)) in
+      mul-le-mul {n₂ = 4} {m₂ = 2 ^ 49} l (rw pt (position-small w a c d i hi ha hc hd))
+
+-- ---- methods
+
+module _ (t : List ℕ) (m : ℕ) where
+  pub coefficient-is : (k s z : ℕ) (r : ℤ) (n : ℕ) → s ≡ slotIn t (sectionIn sections method) m k → z ≡ slotIn t (sectionIn sections method) m (k + 1)
+      → n ≡ min z pastCoefficient → r ≡ signedOf (eqb s 1) n → r ≡ coefficient (tablesIn t) m k
+  coefficient-is k s z r n a b c d = rw (d, c, a, b)
+
+  pub coefficients-are : (b c e f : ℤ) → b ≡ coefficient (tablesIn t) m 1 → c ≡ coefficient (tablesIn t) m 3 → e ≡ coefficient (tablesIn t) m 5 → f ≡ coefficient (tablesIn t) m 7
+      → _≡_ {A = Coefficients} (record { b = b; c = c; e = e; f = f }) (coefficients (tablesIn t) m)
+  coefficients-are b c e f p q r s = rw (p, q, r, s)
+
+pub ruleset methods = (coefficient-is, coefficients-are, needs)

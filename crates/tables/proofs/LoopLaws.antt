@@ -1,0 +1,147 @@
+-- The rule over all records of a section, over the cells that are not used, and the sum of elements, by the turns that the code takes.
+use Prim.Native.Nat.{ℕ, _+_, _-_, _*_, _^_, _≤_, _<_}
+use mathlib.Core.Path.{_≡_, refl, sym, _∙_}
+use mathlib.Core.List.{List}
+use mathlib.Core.Bool.{Bool, true, false, _&&_}
+use native.Mathlib.Omega.{arith}
+use native.Mathlib.Nat.{mul-le-mul-left}
+use borrow.Author.Needs.{needs}
+use borrow.Author.Tests.{ltb-true, ltb-false, eq-eqb, ne-eqb}
+use lib.Dec.{eqb, leb, ltb}
+use lib.ListN.{length, getD, List·getD-eq-default}
+use Rattle.records.specs.Cells.{sectionIn, countIn, slotIn}
+use Rattle.records.specs.declared.Section.{Section}
+use Rattle.records.proofs.OpLaws.{product}
+use Rattle.tables.specs.Form.{sections, Tables, tablesIn}
+use Rattle.tables.specs.Group.{sumBelow, elements}
+use Rattle.tables.specs.Rule.{allBelow, countFits, unusedZero, formRule, ruled, keepsRule}
+use Rattle.tables.proofs.All.{all-none, all-more, all-fails, all-at, all-of, sum-none, sum-more, sum-most}
+use Rattle.tables.proofs.GroupLaws.{elements-most}
+
+-- r is what the code says of record i; c the number of records
+module _ (f : ℕ → Bool) where
+  pub all-on : (i : ℕ) (r : Bool) → allBelow i f ≡ true → r ≡ f i → r ≡ true → allBelow (i + 1) f ≡ true
+  all-on i r p q h = all-more f i p (sym q ∙ h)
+
+  pub all-stop : (n i c : ℕ) (r : Bool) → c ≡ n → i < c → r ≡ f i → r ≡ false → false ≡ allBelow n f
+  all-stop n i c r p l q h = sym (all-fails f n i (rw p at l) (sym q ∙ h))
+
+  pub all-done : (n i c : ℕ) → c ≡ n → c ≤ i → i ≤ c → allBelow i f ≡ true → true ≡ allBelow n f
+  all-done n i c p h l q = let e : n ≡ i = omega arith in rw e (sym q)
+
+pub ruleset turns = (all-none, all-on, all-stop, all-done, needs)
+
+-- ---- numbers of a record that are zero
+
+abbrev pub zeroAt : List ℕ → ℕ → ℕ → ℕ → ℕ → Bool
+zeroAt t j i a k = eqb (slotIn t (sectionIn sections j) i (k + a)) 0
+
+module _ (t : List ℕ) (j i a : ℕ) where
+  pub zeros-none : allBelow 0 (zeroAt t j i a) ≡ true
+  zeros-none = all-none (zeroAt t j i a)
+
+  pub zeros-on : (k v : ℕ) → allBelow k (zeroAt t j i a) ≡ true → v ≡ slotIn t (sectionIn sections j) i (k + a) → v ≡ 0 → allBelow (k + 1) (zeroAt t j i a) ≡ true
+  zeros-on k v p q h = all-more (zeroAt t j i a) k p (rw (← q) (eq-eqb v 0 h))
+
+  pub zeros-stop : (n k v : ℕ) → k < n → v ≡ slotIn t (sectionIn sections j) i (k + a) → (v ≡ 0 → ⊥) → false ≡ allBelow n (zeroAt t j i a)
+  zeros-stop n k v l q h = sym (all-fails (zeroAt t j i a) n k l (rw (← q) (ne-eqb v 0 h)))
+
+  pub zeros-done : (n k : ℕ) → n ≤ k → k ≤ n → allBelow k (zeroAt t j i a) ≡ true → true ≡ allBelow n (zeroAt t j i a)
+  zeros-done n k h l p = let e : n ≡ k = omega arith in rw e (sym p)
+
+pub ruleset zeros = (zeros-none, zeros-on, zeros-stop, zeros-done, needs)
+
+-- ---- cells that are zero
+
+abbrev pub clearAt : List ℕ → ℕ → ℕ → Bool
+clearAt t a k = eqb (getD t (a + k) 0) 0
+
+module _ (t : List ℕ) (a : ℕ) where
+  pub clear-none : allBelow 0 (clearAt t a) ≡ true
+  clear-none = all-none (clearAt t a)
+
+  pub clear-on : (k : ℕ) → allBelow k (clearAt t a) ≡ true → getD t (a + k) 0 ≡ 0 → allBelow (k + 1) (clearAt t a) ≡ true
+  clear-on k p h = all-more (clearAt t a) k p (eq-eqb _ 0 h)
+
+  pub clear-stop : (n k : ℕ) → k < n → (getD t (a + k) 0 ≡ 0 → ⊥) → false ≡ allBelow n (clearAt t a)
+  clear-stop n k l h = sym (all-fails (clearAt t a) n k l (ne-eqb _ 0 h))
+
+  pub clear-done : (n k : ℕ) → n ≤ k → k ≤ n → allBelow k (clearAt t a) ≡ true → true ≡ allBelow n (clearAt t a)
+  clear-done n k h l p = let e : n ≡ k = omega arith in rw e (sym p)
+
+  -- past the end there is no cell
+  pub clear-past : (n k : ℕ) → length t ≤ a + k → allBelow k (clearAt t a) ≡ true → true ≡ allBelow n (clearAt t a)
+  clear-past n k l p = sym (all-of n (clearAt t a) (λ i h. by-place i (ltb i k) refl)) where
+    by-place : (i : ℕ) (b : Bool) → ltb i k ≡ b → clearAt t a i ≡ true
+    by-place i true b = all-at k (clearAt t a) p i (ltb-true i k b)
+    by-place i false b = let h : k ≤ i = ltb-false i k b in eq-eqb _ 0 (List·getD-eq-default t 0 (omega arith))
+
+pub ruleset clears = (clear-none, clear-on, clear-stop, clear-done, clear-past, needs)
+
+-- ---- sections
+
+-- c is what `section_of` gave
+module _ (t : List ℕ) (j : ℕ) (c : Section) (p : c ≡ sectionIn sections j) where
+  pub fits-is : (v : ℕ) → v ≡ getD t (c .base) 0 → leb v (c .most) ≡ countFits t j
+  unfolding countFits
+  fits-is v q = rw (q, p)
+
+  -- u cells are used by n records, and a by the most there may be
+  module _ (n u a : ℕ) (q : n ≡ countIn t (sectionIn sections j)) (pu : u ≡ c .width * n) (pa : a ≡ c .width * c .most) where
+    pub unused-is : (r : Bool) → r ≡ allBelow (a - u) (clearAt t (c .base + (1 + u))) → r ≡ unusedZero t j
+    unfolding unusedZero
+    unused-is r e = rw (e, pu, pa, p, q)
+
+    pub used-most : u ≤ a
+    unfolding countIn
+    used-most = rw (pu, pa) (mul-le-mul-left (c .width) (rw (q, p) (omega arith)))
+
+    pub used-small : c .width < 2 ^ 8 → c .most < 2 ^ 16 → a ≤ 2 ^ 24
+    used-small h l = rw pa (product (c .width) (c .most) h l)
+
+pub ruleset unuseds = (fits-is, needs)
+
+abbrev pub formedAt : List ℕ → ℕ → Bool
+formedAt t j = countFits t j && unusedZero t j
+
+module _ (t : List ℕ) where
+  pub form-none : allBelow 0 (formedAt t) ≡ true
+  form-none = all-none (formedAt t)
+
+  pub form-on : (j : ℕ) (a b : Bool) → allBelow j (formedAt t) ≡ true → a ≡ countFits t j → b ≡ unusedZero t j → (a && b) ≡ true → allBelow (j + 1) (formedAt t) ≡ true
+  form-on j a b p q r h = all-more (formedAt t) j p (rw (← q, ← r) h)
+
+  pub form-stop : (j : ℕ) (a b : Bool) → j < 6 → a ≡ countFits t j → b ≡ unusedZero t j → (a && b) ≡ false → false ≡ formRule t
+  unfolding formRule sections
+  form-stop j a b l q r h = sym (all-fails (formedAt t) 6 j l (rw (← q, ← r) h))
+
+  pub form-done : (j : ℕ) → 6 ≤ j → j ≤ 6 → allBelow j (formedAt t) ≡ true → true ≡ formRule t
+  unfolding formRule sections
+  form-done j h l p = let e : 6 ≡ j = omega arith in rw e (sym p)
+
+  pub keeps-formed : (n m : ℕ) (a r : Bool) → a ≡ formRule t → a ≡ true → r ≡ ruled (tablesIn t) n m → r ≡ keepsRule n m t
+  unfolding keepsRule
+  keeps-formed n m a r p h q = rw (← p, h, q)
+
+  pub keeps-none : (n m : ℕ) (a : Bool) → a ≡ formRule t → a ≡ false → false ≡ keepsRule n m t
+  unfolding keepsRule
+  keeps-none n m a p h = rw (← p, h)
+
+pub ruleset forms = (form-none, form-on, form-stop, form-done, keeps-formed, keeps-none, needs)
+
+-- ---- the sum
+
+module _ (T : Tables) where
+  pub sum-on : (g s e : ℕ) → s ≡ sumBelow g (elements T) → e ≡ elements T g → s + e ≡ sumBelow (g + 1) (elements T)
+  sum-on g s e p q = rw (sum-more (elements T) g, p, q)
+
+  pub sum-done : (n g c s : ℕ) → c ≡ n → c ≤ g → g ≤ c → s ≡ sumBelow g (elements T) → s ≡ sumBelow n (elements T)
+  sum-done n g c s p h l q = let e : n ≡ g = omega arith in rw e q
+
+  pub sum-small : (g s e : ℕ) → s ≡ sumBelow g (elements T) → e ≡ elements T g → g < 65536 → s + e ≤ 2 ^ 45
+  sum-small g s e p q h =
+      let a : s ≤ 16785409 * g = rw p (sum-most (elements T) 16785409 (elements-most T) g) in
+      let b : e ≤ 16785409 = rw q (elements-most T g) in
+      omega arith
+
+pub ruleset sums = (sum-none, sum-on, sum-done, needs)

@@ -1,0 +1,43 @@
+-- Groups and addressing: the elements of one part of an object, where each stands in the image, and its line in the list.
+use Prim.Native.Nat.{ℕ, zero, suc, _+_, _*_, _-_, _/_, _%_}
+use mathlib.Core.Bool.{cond}
+use lib.Dec.{eqb}
+use Rattle.cell.specs.Kind.{shapeOf}
+use Rattle.tables.specs.Form.{Tables, kind, place, x, y, wide, high, walk}
+
+-- "Requests name an element by object number, part and index": the group of an object's part (x 0, y 1, v 2)
+abbrev pub groupOf : ℕ → ℕ → ℕ
+groupOf object part = object * 3 + part
+
+-- the sum of f below n
+unfoldable pub sumBelow : ℕ → (ℕ → ℕ) → ℕ
+sumBelow zero f = 0
+sumBelow (suc n) f = sumBelow n f + f n
+
+-- The index i of a listing counts "x fastest in a map whatever the storage": its x point is i % x, its y point i / x.
+-- Where it stands among the stored ones: "ROW_DIR: x runs fastest .. COLUMN_DIR: y runs fastest. INDEX_DECR stores the axis's last point first".
+unfoldable pub position : ℕ → ℕ → ℕ → ℕ → ℕ → ℕ
+position walk x wide high i =
+    cond (eqb walk 2) (i % x * high + i / x)
+    (cond (eqb walk 1) (x - 1 - i)
+    (i / x * wide + i % x))
+
+module _ (T : Tables) (g : ℕ) where
+  -- how many elements a group has
+  abbrev pub elements : ℕ
+  elements = x T g * y T g
+
+  -- how many bytes an element of it has
+  abbrev pub bytes : ℕ
+  bytes = shapeOf (kind T g) .bytes
+
+  -- the place of element i's first byte in the image
+  unfoldable pub placeOf : ℕ → ℕ
+  placeOf i = place T g + bytes * position (walk T g) (x T g) (wide T g) (high T g) i
+
+-- the list's line of group g's first element, and of its element i
+abbrev pub before : Tables → ℕ → ℕ
+before T g = sumBelow g (elements T)
+
+abbrev pub lineOf : Tables → ℕ → ℕ → ℕ
+lineOf T g i = before T g + i

@@ -1,0 +1,141 @@
+-- "Table rule: every reference below its table's count, counts within capacity, each element's bytes and each stored count inside the image,
+-- conversions and masks as above, limits in order, text places inside the description, no unused field other than zero."
+-- n is the length of the description, m that of the image.
+use Prim.Native.Nat.{ℕ, zero, suc, _+_, _*_, _-_, _%_}
+use mathlib.Core.List.{List}
+use mathlib.Core.Bool.{Bool, true, cond, _&&_, _||_}
+use lib.Dec.{eqb, ltb, leb}
+use lib.ListN.{length, getD}
+use Rattle.cell.specs.Kind.{shapeOf}
+use Rattle.cell.specs.Mask.{maskRule}
+use Rattle.convert.specs.Limit.{atMost}
+use Rattle.convert.specs.Method.{sound}
+use Rattle.records.specs.Records.{widthOf, mostOf}
+use Rattle.records.specs.Cells.{baseIn, sectionIn, countIn}
+use Rattle.tables.specs.Form.{sections, head, object, group, method, table, entry, Tables, tablesIn, total, kind, place, x, y, wide, high, walk, methodOf, mask, counter, counterPlace, limit, coefficients}
+use Rattle.tables.specs.Group.{sumBelow, elements, bytes}
+
+-- f holds below n
+unfoldable pub allBelow : ℕ → (ℕ → Bool) → Bool
+allBelow zero f = true
+allBelow (suc n) f = allBelow n f && f n
+
+-- the words' codes: AXIS_PTS, MEASUREMENT; VALUE to MAP; IDENTICAL to RAT_FUNC; TAB_VERB
+abbrev pub isObject : ℕ → Bool
+isObject k = eqb k 7 || eqb k 10 || leb 15 k && leb k 18
+
+abbrev pub isFraction : ℕ → Bool
+isFraction k = leb 19 k && leb k 21
+
+abbrev pub isVerbal : ℕ → Bool
+isVerbal k = eqb k 22
+
+-- "Data types: UBYTE, SBYTE, UWORD, SWORD, ULONG, SLONG."
+unfoldable pub isType : ℕ → Bool
+isType k = leb 1 k && leb k 6
+
+-- "text places inside the description"
+unfoldable pub textRule : ℕ → ℕ → ℕ → Bool
+textRule n from past = leb from past && leb past n
+
+-- so many bytes from a place on are inside the image
+unfoldable pub insideRule : ℕ → ℕ → ℕ → Bool
+insideRule m at many = leb (at + many) m
+
+module _ (T : Tables) where
+  unfoldable pub objectRule : ℕ → ℕ → Bool
+  objectRule n i = textRule n (T .slots object i 0) (T .slots object i 1) && isObject (T .slots object i 2)
+
+  module _ (g : ℕ) where
+    -- a part that the object does not store: "no unused field other than zero"
+    unfoldable pub noPart : Bool
+    noPart = allBelow 19 (λ k. eqb (T .slots group g k) 0)
+
+    -- points and room are equal: parts are packed
+    unfoldable pub pointsRule : Bool
+    pointsRule = leb (x T g) 4096 && leb (y T g) 4096 && eqb (wide T g) (x T g) && eqb (high T g) (y T g)
+
+    -- "each stored count inside the image"; where there is none, both numbers are zero
+    unfoldable pub counterRule : ℕ → Bool
+    counterRule m = eqb (counter T g) 0 && eqb (T .slots group g 18) 0 || isType (counter T g) && insideRule m (counterPlace T g) (shapeOf (counter T g) .bytes)
+
+    -- an axis has at most 256 points and no mask
+    unfoldable pub axisRule : ℕ → Bool
+    axisRule m = leb (x T g) 256 && eqb (y T g) 1 && leb (walk T g) 1 && eqb (mask T g) 0 && counterRule m
+
+    -- values run with x or with y fastest, and have no stored count of their own
+    unfoldable pub valuesRule : Bool
+    valuesRule =
+        (eqb (walk T g) 0 || eqb (walk T g) 2) && (eqb (mask T g) 0 || maskRule (shapeOf (kind T g)) (mask T g))
+        && eqb (counter T g) 0 && eqb (T .slots group g 18) 0
+
+    -- "limits in order"
+    unfoldable pub limitsRule : Bool
+    limitsRule = leb (T .slots group g 11) 1 && leb (T .slots group g 14) 1 && atMost (limit T g 11) (limit T g 14)
+
+    -- "each element's bytes .. inside the image"
+    unfoldable pub bytesRule : ℕ → Bool
+    bytesRule m = insideRule m (place T g) (bytes T g * (wide T g * high T g))
+
+    -- the first two parts of an object are axes, the third is its values
+    unfoldable pub roleRule : ℕ → Bool
+    roleRule m = cond (ltb (g % 3) 2) (axisRule m) valuesRule
+
+    unfoldable pub partRule : ℕ → Bool
+    partRule m =
+        isType (kind T g) && leb (T .slots group g 1) 1 && pointsRule && bytesRule m && roleRule m
+        && leb (methodOf T g) (T .counts method) && leb (T .slots group g 10) 1 && limitsRule
+
+    unfoldable pub groupRule : ℕ → Bool
+    groupRule m = cond (eqb (kind T g) 0) noPart (partRule m)
+
+  -- "conversions .. as above"
+  unfoldable pub verbalRule : ℕ → Bool
+  verbalRule i = allBelow 8 (λ k. eqb (T .slots method i (k + 1)) 0) && leb 1 (T .slots method i 9) && leb (T .slots method i 9) (T .counts table)
+
+  unfoldable pub signsRule : ℕ → Bool
+  signsRule i = leb (T .slots method i 1) 1 && leb (T .slots method i 3) 1 && leb (T .slots method i 5) 1 && leb (T .slots method i 7) 1
+
+  unfoldable pub fractionRule : ℕ → Bool
+  fractionRule i = isFraction (T .slots method i 0) && signsRule i && sound (coefficients T i) && eqb (T .slots method i 9) 0
+
+  unfoldable pub methodRule : ℕ → Bool
+  methodRule i = cond (isVerbal (T .slots method i 0)) (verbalRule i) (fractionRule i)
+
+  unfoldable pub tableRule : ℕ → ℕ → Bool
+  tableRule n i = leb (T .slots table i 0 + T .slots table i 1) (T .counts entry) && textRule n (T .slots table i 2) (T .slots table i 3)
+
+  unfoldable pub entryRule : ℕ → ℕ → Bool
+  entryRule n i = leb (T .slots entry i 0) 1 && textRule n (T .slots entry i 2) (T .slots entry i 3)
+
+  -- "4,096 elements in all objects", as many as the head says; edition and size mark have no meaning yet
+  unfoldable pub headRule : Bool
+  headRule =
+      eqb (T .counts head) 1 && eqb (T .slots head 0 0) 0 && eqb (T .slots head 0 1) 0
+      && eqb (total T) (sumBelow (T .counts group) (elements T)) && leb (total T) 4096 && eqb (T .counts group) (T .counts object * 3)
+
+  unfoldable pub ruled : ℕ → ℕ → Bool
+  ruled n m =
+      headRule && allBelow (T .counts object) (objectRule n) && allBelow (T .counts group) (λ g. groupRule g m)
+      && allBelow (T .counts method) methodRule && allBelow (T .counts table) (tableRule n) && allBelow (T .counts entry) (entryRule n)
+
+-- "counts within capacity": the cell that counts section j's records
+unfoldable pub countFits : List ℕ → ℕ → Bool
+countFits t j = leb (getD t (baseIn sections j) 0) (mostOf sections j)
+
+-- "no unused field other than zero": the cells of section j past its records
+abbrev pub unusedFrom : List ℕ → ℕ → ℕ
+unusedFrom t j = baseIn sections j + (1 + widthOf sections j * countIn t (sectionIn sections j))
+
+abbrev pub unusedCells : List ℕ → ℕ → ℕ
+unusedCells t j = widthOf sections j * mostOf sections j - widthOf sections j * countIn t (sectionIn sections j)
+
+unfoldable pub unusedZero : List ℕ → ℕ → Bool
+unusedZero t j = allBelow (unusedCells t j) (λ k. eqb (getD t (unusedFrom t j + k) 0) 0)
+
+unfoldable pub formRule : List ℕ → Bool
+formRule t = allBelow (length sections) (λ j. countFits t j && unusedZero t j)
+
+-- the cells t keep the table rule
+unfoldable pub keepsRule : ℕ → ℕ → List ℕ → Bool
+keepsRule n m t = formRule t && ruled (tablesIn t) n m

@@ -19,7 +19,7 @@ use Rattle.grammar.specs.declared.state.Act.{Act}
 
 module _ (n : ℕ) where
   -- what can be asked of the cells is what can be asked of the records
-  view-encode : (d : List (List (List ℕ))) → Good sections d → viewIn (encode sections n d) ≡ view d
+  pub view-encode : (d : List (List (List ℕ))) → Good sections d → viewIn (encode sections n d) ≡ view d
   view-encode d g i = record { counts = λ j. count-encode sections n d g j i; slots = λ j a k. slot-encode sections n d g j a k i }
 
   puts-encode : (d : List (List (List ℕ))) → Good sections d → (j i k : ℕ) (vs : List ℕ) → putsIn (encode sections n d) (sectionIn sections j) i k vs ≡ encode sections n (puts d j i k vs)

@@ -95,7 +95,7 @@ module _ (x : List ℕ) (v : View) (s : State) (k : ℕ) (r : Token) (p : told r
 pub ruleset moves = (move-name, move-text, move-number, move-begin, move-end, move-finish, move-refused, needs)
 
 -- writing keeps the number of cells
-length-put : (t : List ℕ) (c : Section) (i k v : ℕ) → length (putIn t c i k v) ≡ length t
+pub length-put : (t : List ℕ) (c : Section) (i k v : ℕ) → length (putIn t c i k v) ≡ length t
 unfolding putIn
 length-put t c i k v = by-test (ltb i (countIn t c) && ltb k (c .width)) where
   by-test : (b : Bool) → length (cond b (set t (place c i k) v) t) ≡ length t
@@ -106,7 +106,7 @@ length-puts : (t : List ℕ) (c : Section) (i k : ℕ) (vs : List ℕ) → lengt
 length-puts t c i k [] = refl
 length-puts t c i k (v ∷ vs) = length-puts (putIn t c i k v) c i (suc k) vs ∙ length-put t c i k v
 
-length-add : (t : List ℕ) (c : Section) → length (addIn t c) ≡ length t
+pub length-add : (t : List ℕ) (c : Section) → length (addIn t c) ≡ length t
 unfolding addIn
 length-add t c = by-test (ltb (countIn t c) (c .most)) where
   by-test : (b : Bool) → length (cond b (set t (c .base) (countIn t c + 1)) t) ≡ length t
@@ -168,7 +168,7 @@ unfolding readFromIn
 from-long zero x k s t = refl
 from-long (suc f) x k s t = following-long (move x (viewIn t) s k) t (readFromIn f x) (from-long f x)
 
-read-long : (x t : List ℕ) → length (readIn x t .cells) ≡ length t
+pub read-long : (x t : List ℕ) → length (readIn x t .cells) ≡ length t
 unfolding readIn
 read-long x t = from-long (length x + 1) x 0 (state items 0 0 0) (addIn t (sectionIn sections 0)) ∙ length-add t (sectionIn sections 0)
 

@@ -1,0 +1,286 @@
+-- The tables that are built: their cells, their counts and their rows.
+--     built-encode      the rows put one after the other into cells of zeros are the cells of the tables
+--     built-good        every row is as wide as its section, and no section has too many
+--     count-head .. count-entries, slot-head .. slot-entry (slot-x, slot-y, slot-values for groups)    what stands in the tables
+use Prim.Native.Nat.{ℕ, zero, suc, _+_, _-_, _*_, _≤_, _<_, min}
+use mathlib.Core.Path.{_≡_, refl, sym, _∙_, ap}
+use mathlib.Core.List.{List, [], _∷_, _++_}
+use mathlib.Core.Bool.{Bool, true, false, cond, not, _&&_}
+use native.Mathlib.Omega.{arith}
+use borrow.Author.Tests.{ltb-true, ltb-false}
+use lib.Dec.{ltb, eqb}
+use lib.ListN.{length, getD, replicate, length-append, List·getD-append}
+use lib.Seq.{getD-append-add}
+use Rattle.records.specs.Records.{recordsOf, count, slot, widthOf, mostOf, empty}
+use Rattle.records.specs.Cells.{room, encode, sectionIn, countIn}
+use Rattle.records.proofs.Encode.{Good, Wide, fit-few, none-good, none-encode}
+use Rattle.rows.specs.Codes.{TAB-VERB}
+use Rattle.rows.specs.Sections as records
+use Rattle.grammar.specs.Move.{View, view, viewIn}
+use Rattle.tables.specs.Form.{sections, head, object, group, method, table, entry}
+use Rattle.build.specs.Build.{rowsBelow, objectRow, meaning, limitCells, xPart, yPart, valuesPart, xRow, yRow, valuesRow, groupsBelow, tableNumber, verbalRow, fractionRow, methodRow, tableRow, entryRow, built}
+use Rattle.build.specs.Row.{rowIn, rowsIn}
+use Rattle.build.specs.declared.part.Known.{Known}
+use Rattle.build.proofs.Encodes.{Fits, appended, get-last, good-rows, rows-encode}
+
+-- ---- rows
+
+pub rows-long : (n : ℕ) (f : ℕ → List ℕ) → length (rowsBelow n f) ≡ n
+unfolding rowsBelow
+rows-long zero f = refl
+rows-long (suc n) f = length-append (rowsBelow n f) (f n ∷ []) ∙ omega (arith, rows-long n f)
+
+wide-append : (w : ℕ) (a b : List (List ℕ)) → Wide w a → Wide w b → Wide w (a ++ b)
+wide-append w [] b p q = q
+wide-append w (r ∷ a) b p q = (p .0, wide-append w a b (p .1) q)
+
+rows-wide : (w : ℕ) (f : ℕ → List ℕ) → ((i : ℕ) → length (f i) ≡ w) → (n : ℕ) → Wide w (rowsBelow n f)
+unfolding rowsBelow
+rows-wide w f h zero = tt
+rows-wide w f h (suc n) = wide-append w (rowsBelow n f) (f n ∷ []) (rows-wide w f h n) (h n, tt)
+
+pub rows-at : (n : ℕ) (f : ℕ → List ℕ) (i : ℕ) → i < n → getD (rowsBelow n f) i [] ≡ f i
+unfolding rowsBelow
+rows-at zero f i h = absurd (omega arith)
+rows-at (suc n) f i h = by-place (rows-at n f i) (ltb i n) refl where
+  by-place : (i < n → getD (rowsBelow n f) i [] ≡ f i) → (b : Bool) → ltb i n ≡ b → getD (rowsBelow n f ++ (f n ∷ [])) i [] ≡ f i
+  by-place ih true t =
+      let l : i < n = ltb-true i n t in
+      let m : i < length (rowsBelow n f) = rw (rows-long n f) l in
+      List·getD-append (rowsBelow n f) (f n ∷ []) [] i m ∙ ih l
+  by-place ih false t =
+      let e : i ≡ n = omega (arith, ltb-false i n t) in
+      let l : i ≡ length (rowsBelow n f) = e ∙ sym (rows-long n f) in
+      ap (λ (k : ℕ). getD (rowsBelow n f ++ (f n ∷ [])) k []) l ∙ get-last (rowsBelow n f) (f n) [] ∙ ap f (sym e)
+
+-- ---- widths
+
+cond-long : (b : Bool) (w : ℕ) (p q : List ℕ) → length p ≡ w → length q ≡ w → length (cond b p q) ≡ w
+cond-long true w p q a b = a
+cond-long false w p q a b = b
+
+module _ (base : ℕ) (x : List ℕ) (v : View) (i : ℕ) (o : Known) where
+  x-wide : length (xPart base x v i o) ≡ 19
+  unfolding xPart meaning limitCells
+  x-wide = cond-long (o .need .x .stored) 19 _ _ refl refl
+
+  y-wide : length (yPart base x v i o) ≡ 19
+  unfolding yPart meaning limitCells
+  y-wide = cond-long (o .need .y .stored) 19 _ _ refl refl
+
+  values-wide : length (valuesPart base x v i o) ≡ 19
+  unfolding valuesPart meaning limitCells
+  values-wide = cond-long (o .need .values) 19 _ _ refl refl
+
+method-wide : (x : List ℕ) (v : View) (i : ℕ) → length (methodRow x v i) ≡ 10
+unfolding methodRow
+method-wide x v i = cond-long (eqb (v .slots records.method i 4) TAB-VERB && not (eqb (tableNumber x v i) 0)) 10 (verbalRow (tableNumber x v i)) (fractionRow v i) refl refl
+
+-- ---- groups
+
+module _ (image : List ℕ) (base : ℕ) (x : List ℕ) (v : View) where
+  -- the three rows of object i
+  abbrev three : ℕ → List (List ℕ)
+  three i = xRow image base x v i ∷ yRow image base x v i ∷ valuesRow image base x v i ∷ []
+
+  pub groups-long : (n : ℕ) → length (groupsBelow image base x v n) ≡ n * 3
+  unfolding groupsBelow
+  groups-long zero = refl
+  groups-long (suc n) = length-append (groupsBelow image base x v n) (three n) ∙ omega (arith, groups-long n)
+
+  groups-wide : (n : ℕ) → Wide 19 (groupsBelow image base x v n)
+  unfolding groupsBelow
+  groups-wide zero = tt
+  groups-wide (suc n) = wide-append 19 (groupsBelow image base x v n) (three n) (groups-wide n) (x-wide base x v n _, (y-wide base x v n _, (values-wide base x v n _, tt)))
+
+  groups-at : (n i k : ℕ) → k < 3 → i < n → getD (groupsBelow image base x v n) (i * 3 + k) [] ≡ getD (three i) k []
+  unfolding groupsBelow
+  groups-at zero i k hk h = absurd (omega arith)
+  groups-at (suc n) i k hk h = by-place (groups-at n i k hk) (ltb i n) refl where
+    by-place : (i < n → getD (groupsBelow image base x v n) (i * 3 + k) [] ≡ getD (three i) k []) → (b : Bool) → ltb i n ≡ b → getD (groupsBelow image base x v n ++ three n) (i * 3 + k) [] ≡ getD (three i) k []
+    by-place ih true t =
+        let l : i < n = ltb-true i n t in
+        let m : i * 3 + k < length (groupsBelow image base x v n) = omega (arith, groups-long n) in
+        List·getD-append (groupsBelow image base x v n) (three n) [] (i * 3 + k) m ∙ ih l
+    by-place ih false t =
+        let e : i ≡ n = omega (arith, ltb-false i n t) in
+        let l : i * 3 + k ≡ length (groupsBelow image base x v n) + k = omega (arith, groups-long n) in
+        ap (λ (m : ℕ). getD (groupsBelow image base x v n ++ three n) m []) l ∙ getD-append-add (groupsBelow image base x v n) (three n) k [] ∙ ap (λ (m : ℕ). getD (three m) k []) (sym e)
+
+-- ---- no section has too many
+
+-- the records that were read are within the capacities
+pub record Within (v : View) : Type 0 where
+  pub objects : v .counts records.object ≤ 512
+  pub methods : v .counts records.method ≤ 128
+  pub tables : v .counts records.table ≤ 128
+  pub entries : v .counts records.entry ≤ 1024
+
+pub within-in : (t : List ℕ) → Within (viewIn t)
+unfolding countIn records.sections
+within-in t = record { objects = omega arith; methods = omega arith; tables = omega arith; entries = omega arith }
+
+pub within-of : (d : List (List (List ℕ))) → Good records.sections d → Within (view d)
+unfolding records.sections
+within-of d g =
+    record {
+      objects = fit-few records.sections d records.object g;
+      methods = fit-few records.sections d records.method g;
+      tables = fit-few records.sections d records.table g;
+      entries = fit-few records.sections d records.entry g;
+    }
+
+module _ (image : List ℕ) (base : ℕ) (x : List ℕ) (v : View) (e : ℕ) (w : Within v) where
+  abbrev headRows : List (List ℕ)
+  headRows = (0 ∷ 0 ∷ e ∷ []) ∷ []
+
+  abbrev objectRows : List (List ℕ)
+  objectRows = rowsBelow (v .counts records.object) (objectRow v)
+
+  abbrev groupRows : List (List ℕ)
+  groupRows = groupsBelow image base x v (v .counts records.object)
+
+  abbrev methodRows : List (List ℕ)
+  methodRows = rowsBelow (v .counts records.method) (methodRow x v)
+
+  abbrev tableRows : List (List ℕ)
+  tableRows = rowsBelow (v .counts records.table) (tableRow v)
+
+  abbrev entryRows : List (List ℕ)
+  entryRows = rowsBelow (v .counts records.entry) (entryRow v)
+
+  wide-objects : Wide 3 objectRows
+  wide-objects = rows-wide 3 (objectRow v) (λ i. refl) (v .counts records.object)
+
+  wide-groups : Wide 19 groupRows
+  wide-groups = groups-wide image base x v (v .counts records.object)
+
+  wide-methods : Wide 10 methodRows
+  wide-methods = rows-wide 10 (methodRow x v) (method-wide x v) (v .counts records.method)
+
+  wide-tables : Wide 4 tableRows
+  wide-tables = rows-wide 4 (tableRow v) (λ i. refl) (v .counts records.table)
+
+  wide-entries : Wide 4 entryRows
+  wide-entries = rows-wide 4 (entryRow v) (λ i. refl) (v .counts records.entry)
+
+  few-objects : length objectRows ≤ 512
+  few-objects = omega (arith, w .objects, rows-long (v .counts records.object) (objectRow v))
+
+  few-groups : length groupRows ≤ 1536
+  few-groups = omega (arith, w .objects, groups-long image base x v (v .counts records.object))
+
+  few-methods : length methodRows ≤ 128
+  few-methods = omega (arith, w .methods, rows-long (v .counts records.method) (methodRow x v))
+
+  few-tables : length tableRows ≤ 128
+  few-tables = omega (arith, w .tables, rows-long (v .counts records.table) (tableRow v))
+
+  few-entries : length entryRows ≤ 1024
+  few-entries = omega (arith, w .entries, rows-long (v .counts records.entry) (entryRow v))
+
+  pub built-good : Good sections (built image base x v e)
+  unfolding sections built
+  built-good =
+      ((refl, tt), omega arith, (wide-objects, few-objects, (wide-groups, few-groups, (wide-methods, few-methods, (wide-tables, few-tables, (wide-entries, few-entries, refl))))))
+
+  -- rows put into cells of zeros, section after section
+  pub built-encode : (n : ℕ) → room sections ≤ n
+      → rowsIn (rowsIn (rowsIn (rowsIn (rowsIn (rowsIn (replicate n 0) head headRows) object objectRows) group groupRows) method methodRows) table tableRows) entry entryRows ≡ encode sections n (built image base x v e)
+  unfolding sections built
+  built-encode n h =
+      let d₀ : List (List (List ℕ)) = [] ∷ [] ∷ [] ∷ [] ∷ [] ∷ [] ∷ [] in
+      let g₀ : Good sections d₀ = none-good sections in
+      let f₀ : Fits d₀ head headRows = record { there = omega arith; wide = (refl, tt); few = omega arith } in
+      let d₁ : List (List (List ℕ)) = appended d₀ head headRows in
+      let g₁ : Good sections d₁ = good-rows d₀ head headRows g₀ f₀ in
+      let f₁ : Fits d₁ object objectRows = record { there = omega arith; wide = wide-objects; few = omega (arith, few-objects) } in
+      let d₂ : List (List (List ℕ)) = appended d₁ object objectRows in
+      let g₂ : Good sections d₂ = good-rows d₁ object objectRows g₁ f₁ in
+      let f₂ : Fits d₂ group groupRows = record { there = omega arith; wide = wide-groups; few = omega (arith, few-groups) } in
+      let d₃ : List (List (List ℕ)) = appended d₂ group groupRows in
+      let g₃ : Good sections d₃ = good-rows d₂ group groupRows g₂ f₂ in
+      let f₃ : Fits d₃ method methodRows = record { there = omega arith; wide = wide-methods; few = omega (arith, few-methods) } in
+      let d₄ : List (List (List ℕ)) = appended d₃ method methodRows in
+      let g₄ : Good sections d₄ = good-rows d₃ method methodRows g₃ f₃ in
+      let f₄ : Fits d₄ table tableRows = record { there = omega arith; wide = wide-tables; few = omega (arith, few-tables) } in
+      let d₅ : List (List (List ℕ)) = appended d₄ table tableRows in
+      let g₅ : Good sections d₅ = good-rows d₄ table tableRows g₄ f₄ in
+      let f₅ : Fits d₅ entry entryRows = record { there = omega arith; wide = wide-entries; few = omega (arith, few-entries) } in
+      ap (λ (u : List ℕ). rowsIn (rowsIn (rowsIn (rowsIn (rowsIn (rowsIn u head headRows) object objectRows) group groupRows) method methodRows) table tableRows) entry entryRows) (none-encode sections n h)
+      ∙ ap (λ (u : List ℕ). rowsIn (rowsIn (rowsIn (rowsIn (rowsIn u object objectRows) group groupRows) method methodRows) table tableRows) entry entryRows) (rows-encode n d₀ head headRows g₀ f₀)
+      ∙ ap (λ (u : List ℕ). rowsIn (rowsIn (rowsIn (rowsIn u group groupRows) method methodRows) table tableRows) entry entryRows) (rows-encode n d₁ object objectRows g₁ f₁)
+      ∙ ap (λ (u : List ℕ). rowsIn (rowsIn (rowsIn u method methodRows) table tableRows) entry entryRows) (rows-encode n d₂ group groupRows g₂ f₂)
+      ∙ ap (λ (u : List ℕ). rowsIn (rowsIn u table tableRows) entry entryRows) (rows-encode n d₃ method methodRows g₃ f₃)
+      ∙ ap (λ (u : List ℕ). rowsIn u entry entryRows) (rows-encode n d₄ table tableRows g₄ f₄)
+      ∙ rows-encode n d₅ entry entryRows g₅ f₅
+
+  head-first : (u₀ u₁ : List ℕ) → u₁ ≡ rowIn u₀ head (0 ∷ 0 ∷ e ∷ []) → u₁ ≡ rowsIn u₀ head headRows
+  unfolding rowsIn
+  head-first u₀ u₁ p = p
+
+  -- what the code does, call by call
+  pub built-is : (u₀ u₁ u₂ u₃ u₄ u₅ u₆ : List ℕ) → u₀ ≡ replicate (length u₀) 0 → room sections ≤ length u₀ → u₁ ≡ rowIn u₀ head (0 ∷ 0 ∷ e ∷ []) → u₂ ≡ rowsIn u₁ object objectRows
+      → u₃ ≡ rowsIn u₂ group groupRows → u₄ ≡ rowsIn u₃ method methodRows → u₅ ≡ rowsIn u₄ table tableRows → u₆ ≡ rowsIn u₅ entry entryRows → u₆ ≡ encode sections (length u₀) (built image base x v e)
+  built-is u₀ u₁ u₂ u₃ u₄ u₅ u₆ z h p₁ p₂ p₃ p₄ p₅ p₆ =
+      p₆ ∙ rw (p₅, p₄, p₃, p₂, head-first u₀ u₁ p₁)
+      (ap (λ (u : List ℕ). rowsIn (rowsIn (rowsIn (rowsIn (rowsIn (rowsIn u head headRows) object objectRows) group groupRows) method methodRows) table tableRows) entry entryRows) z
+      ∙ built-encode (length u₀) h)
+
+  -- ---- what stands in the tables
+
+  pub count-head : count (built image base x v e) head ≡ 1
+  unfolding built
+  count-head = refl
+
+  pub count-objects : count (built image base x v e) object ≡ v .counts records.object
+  unfolding built
+  count-objects = rows-long (v .counts records.object) (objectRow v)
+
+  pub count-groups : count (built image base x v e) group ≡ v .counts records.object * 3
+  unfolding built
+  count-groups = groups-long image base x v (v .counts records.object)
+
+  pub count-methods : count (built image base x v e) method ≡ v .counts records.method
+  unfolding built
+  count-methods = rows-long (v .counts records.method) (methodRow x v)
+
+  pub count-tables : count (built image base x v e) table ≡ v .counts records.table
+  unfolding built
+  count-tables = rows-long (v .counts records.table) (tableRow v)
+
+  pub count-entries : count (built image base x v e) entry ≡ v .counts records.entry
+  unfolding built
+  count-entries = rows-long (v .counts records.entry) (entryRow v)
+
+  pub slot-head : (k : ℕ) → slot (built image base x v e) head 0 k ≡ getD (0 ∷ 0 ∷ e ∷ []) k 0
+  unfolding built
+  slot-head k = refl
+
+  pub slot-object : (i k : ℕ) → i < v .counts records.object → slot (built image base x v e) object i k ≡ getD (objectRow v i) k 0
+  unfolding built
+  slot-object i k h = ap (λ (r : List ℕ). getD r k 0) (rows-at (v .counts records.object) (objectRow v) i h)
+
+  pub slot-x : (i k : ℕ) → i < v .counts records.object → slot (built image base x v e) group (i * 3) k ≡ getD (xRow image base x v i) k 0
+  unfolding built
+  slot-x i k h = let z : i * 3 ≡ i * 3 + 0 = omega arith in rw z (ap (λ (r : List ℕ). getD r k 0) (groups-at image base x v (v .counts records.object) i 0 (omega arith) h))
+
+  pub slot-y : (i k : ℕ) → i < v .counts records.object → slot (built image base x v e) group (i * 3 + 1) k ≡ getD (yRow image base x v i) k 0
+  unfolding built
+  slot-y i k h = ap (λ (r : List ℕ). getD r k 0) (groups-at image base x v (v .counts records.object) i 1 (omega arith) h)
+
+  pub slot-values : (i k : ℕ) → i < v .counts records.object → slot (built image base x v e) group (i * 3 + 2) k ≡ getD (valuesRow image base x v i) k 0
+  unfolding built
+  slot-values i k h = ap (λ (r : List ℕ). getD r k 0) (groups-at image base x v (v .counts records.object) i 2 (omega arith) h)
+
+  pub slot-method : (i k : ℕ) → i < v .counts records.method → slot (built image base x v e) method i k ≡ getD (methodRow x v i) k 0
+  unfolding built
+  slot-method i k h = ap (λ (r : List ℕ). getD r k 0) (rows-at (v .counts records.method) (methodRow x v) i h)
+
+  pub slot-table : (i k : ℕ) → i < v .counts records.table → slot (built image base x v e) table i k ≡ getD (tableRow v i) k 0
+  unfolding built
+  slot-table i k h = ap (λ (r : List ℕ). getD r k 0) (rows-at (v .counts records.table) (tableRow v) i h)
+
+  pub slot-entry : (i k : ℕ) → i < v .counts records.entry → slot (built image base x v e) entry i k ≡ getD (entryRow v i) k 0
+  unfolding built
+  slot-entry i k h = ap (λ (r : List ℕ). getD r k 0) (rows-at (v .counts records.entry) (entryRow v) i h)

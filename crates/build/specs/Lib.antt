@@ -1,0 +1,3 @@
+-- The tables that a load leaves.
+pub mod Build
+pub mod Row

@@ -1,0 +1,2 @@
+-- The whole load.
+pub mod Load

@@ -1,8 +1,8 @@
+use Rattle.loads.proofs.print_all.Statement.{statement}
+use Rattle.loads.proofs.print_all.Tie as tie
 use borrow.Author.Needs.{needs}
 use Prim.Native.Nat.{_+_, _-_, _≤_}
 use lib.ListN.{length}
-use Rattle.loads.proofs.print_all.Statement.{statement}
-use Rattle.loads.proofs.print_all.Tie as tie
 
 abbrev Inv-loop : tie.InvT-loop
 Inv-loop s from₀ n₀ from n = n ≤ from + 1
@@ -19,10 +19,9 @@ print-all-spec =
     (λ c. search needs)
     (λ c κs. search needs)
     (λ c. search needs)
-    (λ c. search needs)
-    (λ c. search needs)
-    (λ c. search needs)
     (λ c κs. search needs)
+    (λ c κs. search needs)
+    (λ c. search needs)
     (λ c. search needs)
     (λ c. search needs)
     (λ c. search needs)

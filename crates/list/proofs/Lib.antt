@@ -1,0 +1,11 @@
+-- Laws that belong to no one function.
+pub mod LineLaws
+pub mod ElementLaws
+pub mod CheckLaws
+pub mod SearchLaws
+pub mod RefreshLaws
+pub mod StandLaws
+pub mod WantedLaws
+pub mod CallLaws
+pub mod Writes
+pub mod Demand

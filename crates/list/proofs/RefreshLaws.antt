@@ -1,0 +1,214 @@
+-- The lines worked out afresh: what the loop keeps, and what a turn of it does.
+use mathlib.Core.Path.{_≡_, refl, sym, ap, _∙_}
+use mathlib.Core.List.{List}
+use mathlib.Core.Bool.{Bool, true, false, _&&_, _||_}
+use Prim.Native.Nat.{ℕ, _+_, _-_, _≤_, _<_}
+use native.Mathlib.Omega.{arith}
+use borrow.Author.Needs.{needs}
+use borrow.Author.Tests.{lt-ltb, le-ltb, leb-true, ltb-true, ltb-false}
+use lib.Dec.{ltb, leb}
+use lib.IntN.{ℤ, pos}
+use lib.ListN.{length, set}
+use lib.Seq.{set-out}
+use Rattle.tables.specs.Form.{tablesIn, total}
+use Rattle.tables.specs.Group.{sumBelow, elements, bytes, placeOf}
+use Rattle.tables.specs.Sizes.{sizesFit}
+use Rattle.tables.proofs.Reading.{total-is}
+use Rattle.list.specs.declared.element.Line.{Line}
+use Rattle.list.specs.Lines.{over, keep, fresh}
+use Rattle.list.specs.Element.{lineOf, shares, touched}
+use Rattle.list.specs.Calls.{Lent, checkedNo, Kept, kept, room, groups, putLine, remade, refreshed}
+use Rattle.list.proofs.LineLaws.{sum-more, sum-in, over-none, upto, upto-none, upto-next, upto-all, turn, length-at, line-kept, line-fresh, fresh-all}
+use Rattle.list.proofs.CheckLaws.{checked-tests}
+use Rattle.text.proofs.Within.{and-right}
+
+-- ---- bytes in common
+pub below-from : (a b m : ℕ) → a < b → true ≡ ltb a (b + m)
+below-from a b m h = sym (lt-ltb a (b + m) (omega arith))
+
+below-turn : (a b m : ℕ) (t : Bool) → b ≤ a → ltb (a - b) m ≡ t → t ≡ ltb a (b + m)
+below-turn a b m true h e = sym (lt-ltb a (b + m) (omega (arith, ltb-true (a - b) m e)))
+below-turn a b m false h e = sym (le-ltb a (b + m) (omega (arith, ltb-false (a - b) m e)))
+
+pub below-past : (a b m : ℕ) → b ≤ a → ltb (a - b) m ≡ ltb a (b + m)
+below-past a b m h = below-turn a b m (ltb (a - b) m) h refl
+
+pub share-is : (lo many p w : ℕ) (a b : Bool) → a ≡ ltb p (lo + many) → b ≡ ltb lo (p + w) → (a && b) ≡ shares lo (lo + many) p w
+unfolding shares
+share-is lo many p w a b e f = rw (e, f)
+
+pub touch-is : (t : List ℕ) (lo hi g i p w : ℕ) (b : Bool) → p ≡ placeOf (tablesIn t) g i → w ≡ bytes (tablesIn t) g → b ≡ shares lo hi p w → b ≡ touched t lo hi g i
+unfolding touched
+touch-is t lo hi g i p w b e f h = h ∙ rw (e, f)
+
+pub ruleset commons = (below-from, below-past, share-is, touch-is, needs)
+
+-- whether the lines are enough
+pub enough-is : (t : List ℕ) (a lines : ℕ) → a ≡ total (tablesIn t) → leb a lines ≡ leb (total (tablesIn t)) lines
+enough-is t a lines e = rw e
+
+pub ruleset enoughs = (enough-is, needs)
+
+-- ---- one column
+pub put-past : {A : Type 0} (l : List A) (k : ℕ) (v : A) → length l ≤ k → l ≡ set l k v
+put-past l k v h = sym (set-out l k v h)
+
+pub ruleset puts = (put-past, needs)
+
+-- what the machine reads back of a number is the number
+pub put-back : (l m : List ℤ) (k : ℕ) (y z : ℤ) → m ≡ set l k y → y ≡ z → m ≡ set l k z
+put-back l m k y z p e = p ∙ rw e
+
+pub ruleset backs = (put-back, needs)
+
+-- ---- one line
+same-kept : (img : List ℕ) {r r′ : List ℤ} {s s′ : List ℕ} {a a′ b b′ : List ℤ} → r ≡ r′ → s ≡ s′ → a ≡ a′ → b ≡ b′ → kept img r s a b ≡ kept img r′ s′ a′ b′
+same-kept img p q u v = λ i. record { image = img; raw = p i; state = q i; first = u i; second = v i }
+
+module _ (img : List ℕ) (r : List ℤ) (s : List ℕ) (a b : List ℤ) (k : ℕ) (p : Bool) where
+  pub left-alone : (l : Line) → p ≡ false → kept img r s a b ≡ putLine p k l (kept img r s a b)
+  left-alone l e =
+      same-kept img (line-kept p r k (l .raw) (pos 0) e) (line-kept p s k (l .state) 0 e) (line-kept p a k (l .first) (pos 0) e) (line-kept p b k (l .second) (pos 0) e)
+
+  pub put-afresh : (r′ : List ℤ) (s′ : List ℕ) (a′ b′ : List ℤ) (l w : Line) → p ≡ true → w ≡ l
+      → (r′ ≡ set r k (w .raw)) × (s′ ≡ set s k (w .state)) × (a′ ≡ set a k (w .first)) × (b′ ≡ set b k (w .second))
+      → kept img r′ s′ a′ b′ ≡ putLine p k l (kept img r s a b)
+  put-afresh r′ s′ a′ b′ l w e f h =
+      same-kept img
+      (h .0 ∙ line-fresh p r k (l .raw) (w .raw) (pos 0) e (ap (λ (z : Line). z .raw) f))
+      (h .1 ∙ line-fresh p s k (l .state) (w .state) 0 e (ap (λ (z : Line). z .state) f))
+      (h .2 ∙ line-fresh p a k (l .first) (w .first) (pos 0) e (ap (λ (z : Line). z .first) f))
+      (h .3 ∙ line-fresh p b k (l .second) (w .second) (pos 0) e (ap (λ (z : Line). z .second) f))
+
+-- by the code's test, whether all lines are picked or this one is
+module _ (img : List ℕ) (r : List ℤ) (s : List ℕ) (a b : List ℤ) (k : ℕ) (l : Line) (all q p : Bool) (e : q ≡ p) where
+  pub line-left : (all || q) ≡ false → kept img r s a b ≡ putLine (all || p) k l (kept img r s a b)
+  line-left h = left-alone img r s a b k (all || p) l (rw e at h)
+
+  pub line-afresh : (r′ : List ℤ) (s′ : List ℕ) (a′ b′ : List ℤ) (w : Line) → (all || q) ≡ true → w ≡ l
+      → (r′ ≡ set r k (w .raw)) × (s′ ≡ set s k (w .state)) × (a′ ≡ set a k (w .first)) × (b′ ≡ set b k (w .second))
+      → kept img r′ s′ a′ b′ ≡ putLine (all || p) k l (kept img r s a b)
+  line-afresh r′ s′ a′ b′ w h f g = put-afresh img r s a b k (all || p) r′ s′ a′ b′ l w (rw e at h) f g
+
+-- ---- the loop: k₀ is what was kept at its start, c what is kept now
+module _ (s : ℕ → ℕ → Bool) (t img : List ℕ) (k₀ : Kept) where
+  abbrev counts : ℕ → ℕ
+  counts = elements (tablesIn t)
+
+  abbrev Column : {A : Type 0} → (ℕ → ℕ → A) → A → List A → List A → ℕ → ℕ → Type 0
+  Column w d l₀ l g i = l ≡ over (upto (keep s w d l₀) counts g i) l₀
+
+  pub record Refreshing (g i k : ℕ) (c : Kept) : Type 0 where
+    pub within : g ≤ groups t
+    pub line : k ≡ sumBelow g counts + i
+    pub index : i ≤ counts g
+    pub last : groups t ≤ g → i ≡ 0
+    pub raws : Column (λ g i. lineOf t img g i .raw) (pos 0) (k₀ .raw) (c .raw) g i
+    pub states : Column (λ g i. lineOf t img g i .state) 0 (k₀ .state) (c .state) g i
+    pub firsts : Column (λ g i. lineOf t img g i .first) (pos 0) (k₀ .first) (c .first) g i
+    pub seconds : Column (λ g i. lineOf t img g i .second) (pos 0) (k₀ .second) (c .second) g i
+
+  none : {A : Type 0} (w : ℕ → ℕ → A) (d : A) (l : List A) → Column w d l l 0 0
+  none w d l = rw (upto-none (keep s w d l) counts) (over-none l)
+
+  pub refresh-start : Refreshing 0 0 0 k₀
+  refresh-start = record {
+    within = omega arith;
+    line = unfold sumBelow in refl;
+    index = omega arith;
+    last = λ h. refl;
+    raws = none _ _ (k₀ .raw);
+    states = none _ _ (k₀ .state);
+    firsts = none _ _ (k₀ .first);
+    seconds = none _ _ (k₀ .second);
+  }
+
+  module _ (g i k : ℕ) (c : Kept) (f : Refreshing g i k c) where
+    next : {A : Type 0} (w : ℕ → ℕ → A) (d : A) (l₀ l : List A) → i ≡ counts g → Column w d l₀ l g i → Column w d l₀ l (g + 1) 0
+    next {A} w d l₀ l e h = h ∙ ap (λ (z : List A). over z l₀) (upto-next (keep s w d l₀) counts g i e)
+
+    pub refresh-next : (n m : ℕ) → n ≡ groups t → m ≡ counts g → g < n → m ≤ i → Refreshing (g + 1) 0 k c
+    refresh-next n m pn pm lt h =
+        let e : i ≡ counts g = omega (arith, f .index) in
+        record {
+          within = omega arith;
+          line = f .line ∙ omega (arith, sum-more counts g);
+          index = omega arith;
+          last = λ z. refl;
+          raws = next _ _ (k₀ .raw) (c .raw) e (f .raws);
+          states = next _ _ (k₀ .state) (c .state) e (f .states);
+          firsts = next _ _ (k₀ .first) (c .first) e (f .firsts);
+          seconds = next _ _ (k₀ .second) (c .second) e (f .seconds);
+        }
+
+    module _ (enough : sumBelow (groups t) counts ≤ room k₀) where
+      pub line-below : (n m : ℕ) → n ≡ groups t → m ≡ counts g → g < n → i < m → k < room k₀
+      line-below n m pn pm lt h = let b : sumBelow g counts + counts g ≤ sumBelow (groups t) counts = sum-in counts g (groups t) (omega arith) in omega (arith, f .line)
+
+      pub refresh-turn : (n m : ℕ) (c′ : Kept) → n ≡ groups t → m ≡ counts g → g < n → i < m → c′ ≡ putLine (s g i) k (lineOf t img g i) c → Refreshing g (i + 1) (k + 1) c′
+      refresh-turn n m c′ pn pm lt h e =
+          let b : k < room k₀ = line-below n m pn pm lt h in
+          record {
+            within = f .within;
+            line = omega (arith, f .line);
+            index = omega arith;
+            last = λ z. absurd (omega arith);
+            raws = turn s (λ g i. lineOf t img g i .raw) (pos 0) counts (k₀ .raw) (c .raw) (c′ .raw) g i k (f .line) (omega arith) (f .raws) (ap (λ (z : Kept). z .raw) e);
+            states = turn s (λ g i. lineOf t img g i .state) 0 counts (k₀ .state) (c .state) (c′ .state) g i k (f .line) (omega arith) (f .states) (ap (λ (z : Kept). z .state) e);
+            firsts = turn s (λ g i. lineOf t img g i .first) (pos 0) counts (k₀ .first) (c .first) (c′ .first) g i k (f .line) (omega arith) (f .firsts) (ap (λ (z : Kept). z .first) e);
+            seconds = turn s (λ g i. lineOf t img g i .second) (pos 0) counts (k₀ .second) (c .second) (c′ .second) g i k (f .line) (omega arith) (f .seconds) (ap (λ (z : Kept). z .second) e);
+          }
+
+      module _ (n : ℕ) (pn : n ≡ groups t) (h : n ≤ g) where
+        at-end : g ≡ groups t
+        at-end = omega (arith, f .within)
+
+        no-index : i ≡ 0
+        no-index = f .last (omega arith)
+
+        done-lines : sumBelow g counts + i ≤ room k₀
+        done-lines = let z : sumBelow g counts ≡ sumBelow (groups t) counts = ap (λ (y : ℕ). sumBelow y counts) at-end in omega (arith, no-index)
+
+        pub raw-length : length (c .raw) ≡ length (k₀ .raw)
+        raw-length = length-at _ counts (k₀ .raw) (c .raw) g i (omega (arith, done-lines)) (f .raws)
+
+        pub state-length : length (c .state) ≡ length (k₀ .state)
+        state-length = length-at _ counts (k₀ .state) (c .state) g i (omega (arith, done-lines)) (f .states)
+
+        pub first-length : length (c .first) ≡ length (k₀ .first)
+        first-length = length-at _ counts (k₀ .first) (c .first) g i (omega (arith, done-lines)) (f .firsts)
+
+        pub second-length : length (c .second) ≡ length (k₀ .second)
+        second-length = length-at _ counts (k₀ .second) (c .second) g i (omega (arith, done-lines)) (f .seconds)
+
+        whole : {A : Type 0} (w : ℕ → ℕ → A) (d : A) (l₀ l : List A) → Column w d l₀ l g i → l ≡ fresh s w d counts (groups t) l₀
+        unfolding fresh
+        whole w d l₀ l e = e ∙ rw (no-index, at-end, upto-all)
+
+        pub refresh-end : c .image ≡ img → c ≡ refreshed s t img k₀
+        unfolding refreshed
+        refresh-end e = λ j. record {
+          image = e j;
+          raw = whole (λ g i. lineOf t img g i .raw) (pos 0) (k₀ .raw) (c .raw) (f .raws) j;
+          state = whole (λ g i. lineOf t img g i .state) 0 (k₀ .state) (c .state) (f .states) j;
+          first = whole (λ g i. lineOf t img g i .first) (pos 0) (k₀ .first) (c .first) (f .firsts) j;
+          second = whole (λ g i. lineOf t img g i .second) (pos 0) (k₀ .second) (c .second) (f .seconds) j;
+        }
+
+-- ---- making a list
+pub refreshed-all : (t : List ℕ) (k : Kept) (s : ℕ → ℕ → Bool) → ((g i : ℕ) → s g i ≡ true) → refreshed s t (k .image) k ≡ remade t k
+unfolding refreshed remade
+refreshed-all t k s h =
+    same-kept (k .image)
+    (fresh-all _ _ (pos 0) (elements (tablesIn t)) (groups t) (k .raw) (λ g i p q. h g i))
+    (fresh-all _ _ 0 (elements (tablesIn t)) (groups t) (k .state) (λ g i p q. h g i))
+    (fresh-all _ _ (pos 0) (elements (tablesIn t)) (groups t) (k .first) (λ g i p q. h g i))
+    (fresh-all _ _ (pos 0) (elements (tablesIn t)) (groups t) (k .second) (λ g i p q. h g i))
+
+-- every element has its line, where the call is not refused
+pub lines-hold : (t : List ℕ) (l : Lent) (r lines : ℕ) (enough : Bool) → enough ≡ leb (total (tablesIn t)) lines → r ≡ checkedNo t l enough → r ≡ 0
+    → sumBelow (groups t) (elements (tablesIn t)) ≤ lines
+lines-hold t l r lines enough e p h =
+    let b = checked-tests t l enough r p h in
+    let f = leb-true (total (tablesIn t)) lines (sym e ∙ and-right (sizesFit (l .text) (l .image) (l .base) (length t)) enough (b .0)) in
+    omega (arith, total-is (l .text) (l .image) t (b .1))

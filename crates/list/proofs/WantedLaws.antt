@@ -1,0 +1,55 @@
+-- The raw number that a write wants, by the tests that the code makes.
+use mathlib.Core.Path.{_≡_, _∙_}
+use mathlib.Core.List.{List}
+use mathlib.Core.Bool.{Bool, true, false}
+use Prim.Native.Nat.{ℕ, _-_, min}
+use borrow.Author.Needs.{needs}
+use borrow.Author.Tests.{ne-eqb}
+use lib.Dec.{eqb}
+use lib.IntN.{ℤ}
+use Rattle.number.specs.Answer.{Answer, given, refused}
+use Rattle.number.specs.Decimal.{Scaled}
+use Rattle.cell.specs.Kind.{shapeOf}
+use Rattle.cell.specs.Raw.{fitsRaw}
+use Rattle.convert.specs.Asked.{askedRaw}
+use Rattle.convert.specs.Method.{identicalOf}
+use Rattle.convert.specs.declared.method.Coefficients.{Coefficients}
+use Rattle.tables.specs.Form.{method, tablesIn, kind, mask, methodOf, limit, coefficients}
+use Rattle.list.specs.Element.{pastRecords}
+use Rattle.list.specs.Calls.{rawNumber, physicalText, asksBy, isTabVerb, wantedRaw}
+use Rattle.list.proofs.ElementLaws.{method-slot, near-coefficients}
+
+module _ (t : List ℕ) (g k m : ℕ) (pk : k ≡ kind (tablesIn t) g) (pm : m ≡ mask (tablesIn t) g) where
+  -- y is what the machine reads back of z
+  pub raw-fits : (z y : ℤ) (b : Bool) → b ≡ fitsRaw (shapeOf k) m y → y ≡ z → b ≡ true → given y ≡ wantedRaw (tablesIn t) g (rawNumber z)
+  raw-fits z y b e h q = rw (← pk, ← pm, ← h, ← e, q)
+
+  pub raw-unfit : (z y : ℤ) (b : Bool) → b ≡ fitsRaw (shapeOf k) m y → y ≡ z → b ≡ false → refused 18 ≡ wantedRaw (tablesIn t) g (rawNumber z)
+  raw-unfit z y b e h q = rw (← pk, ← pm, ← h, ← e, q)
+
+  pub asked-is : (s : List ℕ) (b : Bool) (lo up : Scaled) (f : Coefficients) (a : Answer ℤ) → b ≡ isTabVerb (tablesIn t) g → b ≡ false
+      → lo ≡ limit (tablesIn t) g 11 → up ≡ limit (tablesIn t) g 14 → f ≡ asksBy (tablesIn t) g → a ≡ askedRaw lo up f (shapeOf k) m s
+      → a ≡ wantedRaw (tablesIn t) g (physicalText s)
+  asked-is s b lo up f a e q pl pu pf h = h ∙ rw (pl, pu, pf, pk, pm, ← e, q)
+
+pub asked-text : (t : List ℕ) (g : ℕ) (s : List ℕ) (b : Bool) → b ≡ isTabVerb (tablesIn t) g → b ≡ true → refused 15 ≡ wantedRaw (tablesIn t) g (physicalText s)
+asked-text t g s b e q = rw (← e, q)
+
+module _ (t : List ℕ) (g m : ℕ) (p : m ≡ methodOf (tablesIn t) g) where
+  pub verb-none : m ≡ 0 → false ≡ isTabVerb (tablesIn t) g
+  unfolding isTabVerb
+  verb-none e = rw (← p, e)
+
+  pub verb-is : (n k : ℕ) → (m ≡ 0 → ⊥) → n ≡ min (m - 1) pastRecords → k ≡ tablesIn t .slots method n 0 → eqb k 22 ≡ isTabVerb (tablesIn t) g
+  unfolding isTabVerb
+  verb-is n k e q r = rw (r, q, method-slot t 0 (m - 1), ← p, ne-eqb m 0 e)
+
+  pub asks-same : (f : Coefficients) → m ≡ 0 → f ≡ identicalOf → f ≡ asksBy (tablesIn t) g
+  unfolding asksBy
+  asks-same f e h = h ∙ rw (← p, e)
+
+  pub asks-is : (n : ℕ) (f : Coefficients) → (m ≡ 0 → ⊥) → n ≡ min (m - 1) pastRecords → f ≡ coefficients (tablesIn t) n → f ≡ asksBy (tablesIn t) g
+  unfolding asksBy
+  asks-is n f e q h = h ∙ rw (q, near-coefficients t (m - 1), ← p, ne-eqb m 0 e)
+
+pub ruleset wants = (raw-fits, raw-unfit, asked-text, verb-none, verb-is, asks-same, asks-is, needs)

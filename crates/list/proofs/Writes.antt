@@ -1,0 +1,327 @@
+-- What an accepted write keeps and changes: the lemmas behind the demand's theorems.
+use mathlib.Core.Path.{_≡_, refl, sym, ap, _∙_, subst}
+use mathlib.Core.List.{List, [], _∷_}
+use mathlib.Core.Bool.{Bool, true, false, cond, not, _&&_, _||_}
+use mathlib.Core.Logic.{_⊎_, inl, inr}
+use Prim.Native.Nat.{ℕ, zero, suc, _+_, _%_, _^_, _≤_, _<_}
+use native.Mathlib.Nat.{pow-suc}
+use native.Mathlib.Omega.{arith}
+use borrow.Author.Tests.{ltb-true, ltb-false, eqb-true}
+use lib.Bits.{bitAnd}
+use lib.Dec.{ltb, leb, eqb}
+use lib.IntN.{ℤ, pos}
+use lib.ListN.{length, getD}
+use Rattle.number.specs.Answer.{Answer, given, refused}
+use Rattle.cell.specs.Kind.{shapeOf}
+use Rattle.cell.specs.Mask.{maskRule, outside}
+use Rattle.cell.specs.Raw.{fitsRaw}
+use Rattle.cell.specs.Bytes.{storedAt}
+use Rattle.cell.proofs.Laws.{apart-kept}
+use Rattle.cell.proofs.Shapes.{bytes-le}
+use Rattle.cell.proofs.Laws as cell-laws
+use Rattle.convert.specs.Asked.{askedRaw}
+use Rattle.convert.specs.Told.{held}
+use Rattle.convert.proofs.Laws.{asked-stores}
+use Rattle.tables.specs.Form.{object, group, Tables, tablesIn, kind, first, mask, walk, x, y, counter, methodOf, limit}
+use Rattle.tables.specs.Group.{sumBelow, elements, bytes, placeOf}
+use Rattle.tables.specs.Rule.{isType, noPart, pointsRule, counterRule, axisRule, valuesRule, limitsRule, bytesRule, roleRule, partRule, groupRule, keepsRule}
+use Rattle.tables.specs.Sizes.{sizesFit}
+use Rattle.tables.proofs.All.{left, right, three, five, six, all-at}
+use Rattle.tables.proofs.Reading.{rule-facts, groups-are}
+use Rattle.list.specs.declared.element.Line.{Line}
+use Rattle.list.specs.Element.{means, rawOf, lineWith, lineOf, shares, touched}
+use Rattle.list.specs.Calls.{Lent, lentBy, isElement, standingNo, Kept, room, groups, hasRoom, remade, refreshed, After, afterwards, Wanted, rawNumber, physicalText, Request, groupIn, asksBy, isTabVerb, wantedRaw, judged, stored, writtenTo, writing, running, lineAt, withImage}
+use Rattle.list.proofs.LineLaws.{fresh-made, fresh-else, fresh-past, made-past, made-made, length-made}
+use Rattle.list.proofs.CheckLaws.{checked-tests, named}
+use Rattle.list.proofs.StandLaws.{Stands, standing-refused, standing-passed, stands-so}
+
+pub never : {A : Type 0} (n : ℕ) (a : A) → refused n ≡ given a → ⊥
+never n a e = let z : _≡_ {A = ℕ} 0 1 = cc in omega arith
+
+pub same-refused : {A : Type 0} (m n : ℕ) → _≡_ {A = Answer A} (refused m) (refused n) → m ≡ n
+same-refused m n e = cc
+
+pub same-given : {A : Type 0} (a b : A) → given a ≡ given b → a ≡ b
+same-given a b e = cc
+
+-- ---- what the rule says of a mask
+one-le : (w : ℕ) → 1 ≤ 256 ^ w
+one-le zero = omega arith
+one-le (suc w) = rw (pow-suc 256 w) (let h = one-le w in omega arith)
+
+module _ (T : Tables) (g m : ℕ) where
+  abbrev Within : Type 0
+  Within = mask T g < 256 ^ bytes T g
+
+  by-zero : mask T g ≡ 0 → Within
+  by-zero e = rw e (one-le (bytes T g))
+
+  by-rule : maskRule (shapeOf (kind T g)) (mask T g) ≡ true → Within
+  unfolding maskRule
+  by-rule h = ltb-true (mask T g) (256 ^ bytes T g) (right (not (shapeOf (kind T g) .signed) && ltb 0 (mask T g)) (ltb (mask T g) (256 ^ bytes T g)) h)
+
+  or-cases : (a b : Bool) → (a || b) ≡ true → (a ≡ true → Within) → (b ≡ true → Within) → Within
+  or-cases true b h f k = f refl
+  or-cases false b h f k = k h
+
+  by-values : valuesRule T g ≡ true → Within
+  unfolding valuesRule
+  by-values h =
+      let a = (eqb (walk T g) 0 || eqb (walk T g) 2) in
+      let b = (eqb (mask T g) 0 || maskRule (shapeOf (kind T g)) (mask T g)) in
+      let c = eqb (counter T g) 0 in
+      or-cases (eqb (mask T g) 0) (maskRule (shapeOf (kind T g)) (mask T g)) (three a b c (left (a && b && c) (eqb (T .slots group g 18) 0) h) .1)
+      (λ e. by-zero (eqb-true (mask T g) 0 e)) by-rule
+
+  by-axis : axisRule T g m ≡ true → Within
+  unfolding axisRule
+  by-axis h = by-zero (eqb-true (mask T g) 0 (five (leb (x T g) 256) (eqb (y T g) 1) (leb (walk T g) 1) (eqb (mask T g) 0) (counterRule T g m) h .3))
+
+  by-role : roleRule T g m ≡ true → Within
+  unfolding roleRule
+  by-role = go (ltb (g % 3) 2)
+    where
+      go : (b : Bool) → cond b (axisRule T g m) (valuesRule T g) ≡ true → Within
+      go true h = by-axis h
+      go false h = by-values h
+
+  by-part : partRule T g m ≡ true → Within
+  unfolding partRule
+  by-part h =
+      let u = three (isType (kind T g) && leb (T .slots group g 1) 1 && pointsRule T g && bytesRule T g m && roleRule T g m && leb (methodOf T g) (T .counts Rattle.tables.specs.Form.method)) (leb (T .slots group g 10) 1) (limitsRule T g) h in
+      by-role (six (isType (kind T g)) (leb (T .slots group g 1) 1) (pointsRule T g) (bytesRule T g m) (roleRule T g m) (leb (methodOf T g) (T .counts Rattle.tables.specs.Form.method)) (u .0) .4)
+
+  by-none : noPart T g ≡ true → Within
+  unfolding noPart
+  by-none h = by-zero (eqb-true (T .slots group g 9) 0 (all-at 19 (λ k. eqb (T .slots group g k) 0) h 9 (omega arith)))
+
+  by-group : groupRule T g m ≡ true → Within
+  unfolding groupRule
+  by-group = go (eqb (kind T g) 0)
+    where
+      go : (b : Bool) → cond b (noPart T g) (partRule T g m) ≡ true → Within
+      go true h = by-none h
+      go false h = by-part h
+
+-- "masks as above": within the type
+pub mask-inside : (n m : ℕ) (t : List ℕ) → keepsRule n m t ≡ true → (g : ℕ) → g < groups t → mask (tablesIn t) g < 256 ^ bytes (tablesIn t) g
+mask-inside n m t h g l = by-group (tablesIn t) g m (all-at (groups t) (λ i. groupRule (tablesIn t) i m) (rule-facts n m t h .of-groups) g l)
+
+-- ---- what an accepted request is
+pub record Accepted (t : List ℕ) (l : Lent) (enough : Bool) (q : Request) (z : ℤ) : Type 0 where
+  pub sizes : sizesFit (l .text) (l .image) (l .base) (length t) ≡ true
+  pub rule : keepsRule (l .text) (l .image) t ≡ true
+  pub element : isElement (tablesIn t) (q .object) (q .part) (q .index) ≡ true
+  pub group-below : groupIn q < groups t
+  pub index-below : q .index < elements (tablesIn t) (groupIn q)
+  pub wants : wantedRaw (tablesIn t) (groupIn q) (q .wanted) ≡ given z
+
+pub accepted : (t : List ℕ) (l : Lent) (enough : Bool) (q : Request) (z : ℤ) → judged t l enough q ≡ given z → Accepted t l enough q z
+unfolding judged
+accepted t l enough q z h = go (standingNo t l enough (q .object) (q .part) (q .index)) refl
+  where
+    by-stands : Stands t l enough (q .object) (q .part) (q .index) → wantedRaw (tablesIn t) (groupIn q) (q .wanted) ≡ given z → Accepted t l enough q z
+    by-stands s w =
+        let c = checked-tests t l enough 0 (sym (s .checks)) refl in
+        let r = c .1 in
+        let e = named t (q .object) (q .part) (q .index) (s .element) in
+        let u = groups-are (l .text) (l .image) t r in
+        record {
+          sizes = left (sizesFit (l .text) (l .image) (l .base) (length t)) enough (c .0);
+          rule = r;
+          element = s .element;
+          group-below = omega (arith, e .object-below, e .part-below, u);
+          index-below = e .index-below;
+          wants = w;
+        }
+
+    go : (r : ℕ) → standingNo t l enough (q .object) (q .part) (q .index) ≡ r → Accepted t l enough q z
+    go zero e =
+        by-stands (stands-so t l enough (q .object) (q .part) (q .index) 0 (sym e) refl)
+        (sym (standing-passed t l enough (q .object) (q .part) (q .index) 0 (sym e) (wantedRaw (tablesIn t) (groupIn q) (q .wanted)) refl) ∙ h)
+    go (suc r) e =
+        absurd (never (suc r) z
+        (standing-refused t l enough (q .object) (q .part) (q .index) (suc r) (sym e) (wantedRaw (tablesIn t) (groupIn q) (q .wanted)) (λ y. omega arith) ∙ h))
+
+-- what is stored fits type and mask
+pub wanted-fits : (T : Tables) (g : ℕ) (w : Wanted) (z : ℤ) → wantedRaw T g w ≡ given z → fitsRaw (shapeOf (kind T g)) (mask T g) z ≡ true
+wanted-fits T g (rawNumber y) z = go (fitsRaw (shapeOf (kind T g)) (mask T g) y) refl
+  where
+    go : (b : Bool) → fitsRaw (shapeOf (kind T g)) (mask T g) y ≡ b → cond b (given y) (refused 18) ≡ given z → fitsRaw (shapeOf (kind T g)) (mask T g) z ≡ true
+    go true e h = subst (λ (v : ℤ). fitsRaw (shapeOf (kind T g)) (mask T g) v ≡ true) (same-given y z h) e
+    go false e h = absurd (never 18 z h)
+wanted-fits T g (physicalText s) z = go (isTabVerb T g)
+  where
+    go : (b : Bool) → cond (not b) (askedRaw (limit T g 11) (limit T g 14) (asksBy T g) (shapeOf (kind T g)) (mask T g) s) (refused 15) ≡ given z
+        → fitsRaw (shapeOf (kind T g)) (mask T g) z ≡ true
+    go true h = absurd (never 15 z h)
+    go false h = asked-stores (limit T g 11) (limit T g 14) (asksBy T g) (shapeOf (kind T g)) (mask T g) s z h .fits
+
+-- a raw write stores the number that is asked
+pub wanted-raw : (T : Tables) (g : ℕ) (y z : ℤ) → wantedRaw T g (rawNumber y) ≡ given z → y ≡ z
+wanted-raw T g y z = go (fitsRaw (shapeOf (kind T g)) (mask T g) y)
+  where
+    go : (b : Bool) → cond b (given y) (refused 18) ≡ given z → y ≡ z
+    go true h = same-given y z h
+    go false h = absurd (never 18 z h)
+
+-- ---- a write is refused or carried out
+pub by-answer : (t : List ℕ) (n base : ℕ) (k : Kept) (q : Request) (P : After → Type 0)
+    → ((c : ℕ) → judged t (lentBy n base k) (hasRoom t k) q ≡ refused c → P (record { answer = refused c; left = k }))
+    → ((z : ℤ) → judged t (lentBy n base k) (hasRoom t k) q ≡ given z → P (record { answer = given (tt {0}); left = writtenTo t (groupIn q) (q .index) k z }))
+    → P (writing t n base k q)
+unfolding writing
+by-answer t n base k q P f g = go (judged t (lentBy n base k) (hasRoom t k) q) refl
+  where
+    go : (a : Answer ℤ) → judged t (lentBy n base k) (hasRoom t k) q ≡ a → P (afterwards a k (writtenTo t (groupIn q) (q .index) k))
+    go (given z) e = g z e
+    go (refused c) e = f c e
+
+pub refused-answer : (t : List ℕ) (n base : ℕ) (k : Kept) (q : Request) (c : ℕ) → judged t (lentBy n base k) (hasRoom t k) q ≡ refused c → writing t n base k q .answer ≡ refused c
+refused-answer t n base k q c h =
+    by-answer t n base k q (λ (a : After). a .answer ≡ refused c) (λ d e. ap (λ (m : ℕ). refused m) (sym (same-refused c d (sym h ∙ e)))) (λ z e. absurd (never c z (sym h ∙ e)))
+
+-- ---- an element that shares no byte with the one written has the line that it had
+apart : (lo hi p w : ℕ) → shares lo hi p w ≡ false → (p + w ≤ lo) ⊎ (hi ≤ p)
+unfolding shares
+apart lo hi p w = go (ltb p hi) refl
+  where
+    go : (b : Bool) → ltb p hi ≡ b → b && ltb lo (p + w) ≡ false → (p + w ≤ lo) ⊎ (hi ≤ p)
+    go true e h = inl (ltb-false lo (p + w) h)
+    go false e h = inr (ltb-false p hi e)
+
+module _ (t : List ℕ) (g i : ℕ) where
+  abbrev pub low : ℕ
+  low = placeOf (tablesIn t) g i
+
+  abbrev pub high : ℕ
+  high = placeOf (tablesIn t) g i + bytes (tablesIn t) g
+
+  pub line-same : (image : List ℕ) (z : ℤ) (h j : ℕ) → touched t low high h j ≡ false → lineOf t image h j ≡ lineOf t (stored t g i image z) h j
+  unfolding touched stored lineOf rawOf
+  line-same image z h j e =
+      let T = tablesIn t in
+      ap (λ (v : ℤ). lineWith t v (held (means t h v)))
+      (sym (apart-kept (first T h) (placeOf T h j) (shapeOf (kind T h)) (mask T h) (first T g) (placeOf T g i) (shapeOf (kind T g)) (mask T g) z image
+      (apart low high (placeOf T h j) (bytes T h) e)))
+
+  pub length-stored : (image : List ℕ) (z : ℤ) → length (stored t g i image z) ≡ length image
+  unfolding stored
+  length-stored image z = cell-laws.length-kept (first (tablesIn t) g) low (shapeOf (kind (tablesIn t) g)) (mask (tablesIn t) g) z image
+
+  pub bytes-stored : (image : List ℕ) (z : ℤ) (j : ℕ) → (j < low) ⊎ (high ≤ j) → getD (stored t g i image z) j 0 ≡ getD image j 0
+  unfolding stored
+  bytes-stored image z j o = cell-laws.bytes-kept (first (tablesIn t) g) low (shapeOf (kind (tablesIn t) g)) (mask (tablesIn t) g) z image j o
+
+  module _ (image : List ℕ) (z : ℤ) (within : mask (tablesIn t) g < 256 ^ bytes (tablesIn t) g) (b : (j : ℕ) → getD image j 0 < 256) where
+    pub bits-stored : 0 < mask (tablesIn t) g
+        → bitAnd (storedAt (first (tablesIn t) g) low (bytes (tablesIn t) g) (stored t g i image z)) (outside (mask (tablesIn t) g))
+        ≡ bitAnd (storedAt (first (tablesIn t) g) low (bytes (tablesIn t) g) image) (outside (mask (tablesIn t) g))
+    unfolding stored
+    bits-stored h = cell-laws.bits-kept (first (tablesIn t) g) low (shapeOf (kind (tablesIn t) g)) (mask (tablesIn t) g) z image (bytes-le (kind (tablesIn t) g)) within b h
+
+    pub raw-stored : fitsRaw (shapeOf (kind (tablesIn t) g)) (mask (tablesIn t) g) z ≡ true → high ≤ length image → rawOf t (stored t g i image z) g i ≡ z
+    unfolding stored rawOf
+    raw-stored f l = cell-laws.read-back (first (tablesIn t) g) low (shapeOf (kind (tablesIn t) g)) (mask (tablesIn t) g) z image (bytes-le (kind (tablesIn t) g)) within b f l
+
+  pub image-after : (k : Kept) (z : ℤ) → writtenTo t g i k z .image ≡ stored t g i (k .image) z
+  unfolding writtenTo refreshed
+  image-after k z = refl
+
+  -- a list that is made anew is made anew after the write
+  pub write-remade : (k : Kept) (z : ℤ) → writtenTo t g i (remade t k) z ≡ remade t (withImage (stored t g i (k .image) z) k)
+  unfolding writtenTo refreshed remade
+  write-remade k z =
+      let I = stored t g i (k .image) z in
+      λ v. record {
+        image = I;
+        raw = fresh-made (touched t low high) (λ g i. lineOf t (k .image) g i .raw) (λ g i. lineOf t I g i .raw) (pos 0) (elements (tablesIn t)) (groups t) (k .raw) (λ h j a b e. ap (λ (y : Line). y .raw) (line-same (k .image) z h j e)) v;
+        state = fresh-made (touched t low high) (λ g i. lineOf t (k .image) g i .state) (λ g i. lineOf t I g i .state) 0 (elements (tablesIn t)) (groups t) (k .state) (λ h j a b e. ap (λ (y : Line). y .state) (line-same (k .image) z h j e)) v;
+        first = fresh-made (touched t low high) (λ g i. lineOf t (k .image) g i .first) (λ g i. lineOf t I g i .first) (pos 0) (elements (tablesIn t)) (groups t) (k .first) (λ h j a b e. ap (λ (y : Line). y .first) (line-same (k .image) z h j e)) v;
+        second = fresh-made (touched t low high) (λ g i. lineOf t (k .image) g i .second) (λ g i. lineOf t I g i .second) (pos 0) (elements (tablesIn t)) (groups t) (k .second) (λ h j a b e. ap (λ (y : Line). y .second) (line-same (k .image) z h j e)) v;
+      }
+
+  -- a line whose element shares no byte, and what stands past the lines, stay
+  pub apart-line : (k : Kept) (z : ℤ) (h j : ℕ) → h < groups t → j < elements (tablesIn t) h → touched t low high h j ≡ false
+      → lineAt (writtenTo t g i k z) (sumBelow h (elements (tablesIn t)) + j) ≡ lineAt k (sumBelow h (elements (tablesIn t)) + j)
+  unfolding writtenTo refreshed
+  apart-line k z h j a b e =
+      let I = stored t g i (k .image) z in
+      λ v. record {
+        raw = fresh-else (touched t low high) (λ g i. lineOf t I g i .raw) (pos 0) (elements (tablesIn t)) (groups t) (k .raw) h j a b e v;
+        state = fresh-else (touched t low high) (λ g i. lineOf t I g i .state) 0 (elements (tablesIn t)) (groups t) (k .state) h j a b e v;
+        first = fresh-else (touched t low high) (λ g i. lineOf t I g i .first) (pos 0) (elements (tablesIn t)) (groups t) (k .first) h j a b e v;
+        second = fresh-else (touched t low high) (λ g i. lineOf t I g i .second) (pos 0) (elements (tablesIn t)) (groups t) (k .second) h j a b e v;
+      }
+
+  pub past-line : (k : Kept) (z : ℤ) (j : ℕ) → sumBelow (groups t) (elements (tablesIn t)) ≤ j → lineAt (writtenTo t g i k z) j ≡ lineAt k j
+  unfolding writtenTo refreshed
+  past-line k z j a =
+      let I = stored t g i (k .image) z in
+      λ v. record {
+        raw = fresh-past (touched t low high) (λ g i. lineOf t I g i .raw) (pos 0) (elements (tablesIn t)) (groups t) (k .raw) j a v;
+        state = fresh-past (touched t low high) (λ g i. lineOf t I g i .state) 0 (elements (tablesIn t)) (groups t) (k .state) j a v;
+        first = fresh-past (touched t low high) (λ g i. lineOf t I g i .first) (pos 0) (elements (tablesIn t)) (groups t) (k .first) j a v;
+        second = fresh-past (touched t low high) (λ g i. lineOf t I g i .second) (pos 0) (elements (tablesIn t)) (groups t) (k .second) j a v;
+      }
+
+-- what stands past the lines of a list made anew stays
+pub past-made : (t : List ℕ) (k : Kept) (j : ℕ) → sumBelow (groups t) (elements (tablesIn t)) ≤ j → lineAt (remade t k) j ≡ lineAt k j
+unfolding remade
+past-made t k j a = λ v. record {
+  raw = made-past (λ g i. lineOf t (k .image) g i .raw) (pos 0) (elements (tablesIn t)) (groups t) (k .raw) j a v;
+  state = made-past (λ g i. lineOf t (k .image) g i .state) 0 (elements (tablesIn t)) (groups t) (k .state) j a v;
+  first = made-past (λ g i. lineOf t (k .image) g i .first) (pos 0) (elements (tablesIn t)) (groups t) (k .first) j a v;
+  second = made-past (λ g i. lineOf t (k .image) g i .second) (pos 0) (elements (tablesIn t)) (groups t) (k .second) j a v;
+}
+
+pub image-made : (t : List ℕ) (k : Kept) → remade t k .image ≡ k .image
+unfolding remade
+image-made t k = refl
+
+-- a list made anew from an image is the list made anew over what is kept of it
+pub remade-again : (t image : List ℕ) (k : Kept) → remade t (remade t (withImage image k)) ≡ remade t (withImage image k)
+unfolding remade
+remade-again t image k = λ v. record {
+  image = image;
+  raw = made-made (λ g i. lineOf t image g i .raw) (elements (tablesIn t)) (groups t) (k .raw) v;
+  state = made-made (λ g i. lineOf t image g i .state) (elements (tablesIn t)) (groups t) (k .state) v;
+  first = made-made (λ g i. lineOf t image g i .first) (elements (tablesIn t)) (groups t) (k .first) v;
+  second = made-made (λ g i. lineOf t image g i .second) (elements (tablesIn t)) (groups t) (k .second) v;
+}
+
+-- and it has as much room
+pub room-remade : (t : List ℕ) (k : Kept) → sumBelow (groups t) (elements (tablesIn t)) ≤ room k → room (remade t k) ≡ room k
+unfolding remade
+room-remade t k h =
+    let a = length-made (λ g i. lineOf t (k .image) g i .raw) (elements (tablesIn t)) (groups t) (k .raw) (omega arith) in
+    let b = length-made (λ g i. lineOf t (k .image) g i .state) (elements (tablesIn t)) (groups t) (k .state) (omega arith) in
+    let c = length-made (λ g i. lineOf t (k .image) g i .first) (elements (tablesIn t)) (groups t) (k .first) (omega arith) in
+    let d = length-made (λ g i. lineOf t (k .image) g i .second) (elements (tablesIn t)) (groups t) (k .second) (omega arith) in
+    rw (a, b, c, d)
+
+-- ---- a run: what is kept stays the list made anew, over an image of the same length
+module _ (t : List ℕ) (n base : ℕ) (k : Kept) where
+  pub record Anew (c : Kept) : Type 0 where
+    pub image : List ℕ
+    pub long : length image ≡ length (k .image)
+    pub anew : c ≡ remade t (withImage image k)
+
+  write-step : (image : List ℕ) → length image ≡ length (k .image) → (q : Request) → Anew (writing t n base (remade t (withImage image k)) q .left)
+  write-step image l q =
+      by-answer t n base (remade t (withImage image k)) q (λ (a : After). Anew (a .left))
+      (λ c e. record { image = image; long = l; anew = refl })
+      (λ z e. record {
+        image = stored t (groupIn q) (q .index) image z;
+        long = length-stored t (groupIn q) (q .index) image z ∙ l;
+        anew = write-remade t (groupIn q) (q .index) (withImage image k) z;
+      })
+
+  pub run-anew : (c : Kept) → Anew c → (qs : List Request) → Anew (running t n base c qs)
+  run-anew c a [] = a
+  run-anew c a (q ∷ qs) =
+      run-anew (writing t n base c q .left)
+      (subst (λ (y : Kept). Anew (writing t n base y q .left)) (sym (a .anew)) (write-step (a .image) (a .long) q)) qs
+
+  pub start-anew : Anew (remade t k)
+  start-anew = record { image = k .image; long = refl; anew = refl }

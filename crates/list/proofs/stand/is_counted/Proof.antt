@@ -1,0 +1,15 @@
+-- `list::stand::is_counted` meets its contract. Assumes nothing.
+use Rattle.list.proofs.stand.is_counted.Statement.{statement}
+use Rattle.list.proofs.stand.is_counted.Tie as tie
+use Rattle.list.proofs.StandLaws.{counts}
+
+pub is-counted-spec : {M : Type 1} → statement M
+is-counted-spec =
+    tie.close
+    (tie.spec
+    (λ c κs. search counts)
+    (λ c κs. search counts)
+    (λ c. search counts)
+    (λ c κs. search counts)
+    (λ c κs. search counts)
+    (λ c. search counts))

@@ -1,0 +1,17 @@
+-- `list::stand::judge_element` meets its contract. Assumes nothing.
+use Rattle.list.proofs.stand.judge_element.Statement.{statement}
+use Rattle.list.proofs.stand.judge_element.Tie as tie
+use Rattle.list.proofs.StandLaws.{frees}
+
+pub judge-element-spec : {M : Type 1} → statement M
+judge-element-spec =
+    tie.close
+    (tie.spec
+    (λ c κs. search frees)
+    (λ c. search frees)
+    (λ c κs. search frees)
+    (λ c κs. search frees)
+    (λ c. search frees)
+    (λ c κs. search frees)
+    (λ c. search frees)
+    (λ c. search frees))

@@ -1,0 +1,12 @@
+// The value list: reading, the search by name, making a list, and writes.
+mod bytes;
+pub mod check;
+mod element;
+pub mod make;
+pub mod read;
+mod refresh;
+pub mod search;
+mod stand;
+mod store;
+mod wanted;
+pub mod write;

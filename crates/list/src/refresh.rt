@@ -1,0 +1,108 @@
+// The lines of the list, worked out afresh.
+use crate::bytes::touches;
+use crate::element::Line;
+use crate::element::line_of;
+use tables::form::GROUP;
+use tables::form::count_of;
+use tables::group::elements_of;
+ghost use mathlib.Core.Path.{_≡_};
+ghost use Prim.Native.Nat.{_+_, _≤_};
+ghost use lib.ListN.{set};
+ghost use Rattle.tables.specs.Form.{tablesIn};
+ghost use Rattle.tables.specs.Group.{sumBelow, elements};
+ghost use Rattle.list.specs.Element.{lineOf, picked};
+ghost use Rattle.list.specs.Calls.{kept, room, groups, putLine, refreshed};
+
+// Stores a number in a column; nothing past its end.
+fn put(column: &mut [i64], k: usize, v: i64)
+    ensures { λ _. ⌜ now (column .exit) ≡ set (now (column .entry)) k v ⌝ }
+{
+    if k < column.len() {
+        column[k] = v;
+    }
+}
+
+// Stores a state in its column; nothing past its end.
+fn put_state(column: &mut [u8], k: usize, v: u8)
+    ensures { λ _. ⌜ now (column .exit) ≡ set (now (column .entry)) k v ⌝ }
+{
+    if k < column.len() {
+        column[k] = v;
+    }
+}
+
+// Stores a line in the four columns.
+fn put_line(
+    raw: &mut [i64],
+    state: &mut [u8],
+    first: &mut [i64],
+    second: &mut [i64],
+    k: usize,
+    line: Line,
+)
+    ensures { λ _. ⌜ (now (raw .exit) ≡ set (now (raw .entry)) k (line .raw)) × (now (state .exit) ≡ set (now (state .entry)) k (line .state))
+        × (now (first .exit) ≡ set (now (first .entry)) k (line .first)) × (now (second .exit) ≡ set (now (second .entry)) k (line .second)) ⌝ }
+{
+    put(raw, k, line.raw);
+    put_state(state, k, line.state);
+    put(first, k, line.first);
+    put(second, k, line.second);
+}
+
+// One line: worked out afresh where all are, or where its element has one of so many bytes from lo on; else left.
+fn refresh_line(
+    t: &[u64],
+    image: &[u8],
+    raw: &mut [i64],
+    state: &mut [u8],
+    first: &mut [i64],
+    second: &mut [i64],
+    all: bool,
+    lo: u64,
+    many: u64,
+    g: u16,
+    i: u32,
+    k: usize,
+)
+    ensures { λ _. ⌜ kept (now (image .entry)) (now (raw .exit)) (now (state .exit)) (now (first .exit)) (now (second .exit))
+        ≡ putLine (picked (now (t .entry)) lo (lo + many) all g i) k (lineOf (now (t .entry)) (now (image .entry)) g i)
+        (kept (now (image .entry)) (now (raw .entry)) (now (state .entry)) (now (first .entry)) (now (second .entry))) ⌝ }
+{
+    if all | touches(t, lo, many, g, i) {
+        let line = line_of(t, image, g, i);
+        put_line(raw, state, first, second, k, line);
+    }
+}
+
+// Every line, or every line whose element has one of so many bytes from lo on, is worked out afresh.
+pub fn refresh(
+    t: &[u64],
+    image: &[u8],
+    raw: &mut [i64],
+    state: &mut [u8],
+    first: &mut [i64],
+    second: &mut [i64],
+    all: bool,
+    lo: u64,
+    many: u64,
+)
+    requires { ⌜ sumBelow (groups (now t)) (elements (tablesIn (now t))) ≤ room (kept (now image) (now raw) (now state) (now first) (now second)) ⌝ }
+    ensures { λ _. ⌜ kept (now (image .entry)) (now (raw .exit)) (now (state .exit)) (now (first .exit)) (now (second .exit))
+        ≡ refreshed (picked (now (t .entry)) lo (lo + many) all) (now (t .entry)) (now (image .entry))
+        (kept (now (image .entry)) (now (raw .entry)) (now (state .entry)) (now (first .entry)) (now (second .entry))) ⌝ }
+{
+    let n = count_of(t, GROUP);
+    let mut g: u16 = 0;
+    let mut i: u32 = 0;
+    let mut k: usize = 0;
+    while g < n {
+        if i < elements_of(t, g) {
+            refresh_line(t, image, raw, state, first, second, all, lo, many, g, i, k);
+            i += 1;
+            k += 1;
+        } else {
+            g += 1;
+            i = 0;
+        }
+    }
+}

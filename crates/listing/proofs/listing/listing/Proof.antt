@@ -1,0 +1,16 @@
+use Rattle.listing.proofs.listing.listing.Statement.{statement}
+use Rattle.listing.proofs.listing.listing.Tie as tie
+use Rattle.listing.proofs.ListingLaws.{listings}
+
+pub listing-spec : {M : Type 1} → statement M
+listing-spec =
+    tie.close
+    (tie.spec
+    (λ c κs. search listings)
+    (λ c. search listings)
+    (λ c. search listings)
+    (λ c κs. search listings)
+    (λ c. search listings)
+    (λ c κs. search listings)
+    (λ c. search listings)
+    (λ c. search listings))

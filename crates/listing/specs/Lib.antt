@@ -1,0 +1,4 @@
+-- The printed listing.
+pub mod Print
+pub mod Put
+pub mod Listing

@@ -1,0 +1,109 @@
+// A whole listing: the header, and a line for each element of the kept list.
+use crate::element::check_list;
+use crate::element::put_element;
+use crate::line::put_slice;
+use list::check::BAD_SIZE;
+use tables::form::GROUP;
+use tables::form::count_of;
+use tables::group::elements_of;
+ghost use mathlib.Core.Path.{_≡_};
+ghost use Prim.Native.Nat.{_≤_, _^_};
+ghost use lib.ListN.{length};
+ghost use Rattle.tables.specs.Form.{group, tablesIn};
+ghost use Rattle.tables.specs.Group.{elements, sumBelow};
+ghost use Rattle.list.specs.Calls.{kept};
+ghost use Rattle.listing.specs.Print.{header};
+ghost use Rattle.listing.specs.Put.{Put};
+ghost use Rattle.listing.specs.Listing.{columns, printedBelow, printed, listedOf, listing};
+
+// How many bytes were written, or the number of the refusal.
+pub enum ListingAnswer {
+    Written(usize),
+    Refused { no: u8 },
+}
+
+// How many bytes the header has.
+const HEADER: usize = 29;
+
+// Puts the lines of all elements.
+fn put_elements(
+    out: &mut [u8],
+    at: usize,
+    x: &[u8],
+    t: &[u64],
+    raw: &[i64],
+    state: &[u8],
+    first: &[i64],
+    second: &[i64],
+) -> usize
+    requires { ⌜ (at ≤ 2 ^ 24) × (length (now x) ≤ 2 ^ 24) × (sumBelow (tablesIn (now t) .counts group) (elements (tablesIn (now t))) ≤ 4096) ⌝ }
+    ensures { λ r. ⌜ Put at (printedBelow (now (x .entry)) (now (t .entry)) (columns (now (raw .entry)) (now (state .entry)) (now (first .entry)) (now (second .entry))) (tablesIn (now (t .entry)) .counts group)) (now (out .entry)) r (now (out .exit)) ⌝ }
+{
+    let groups = count_of(t, GROUP);
+    let mut g: u16 = 0;
+    let mut i: u32 = 0;
+    let mut k: usize = 0;
+    let mut p = at;
+    while g < groups {
+        if i < elements_of(t, g) {
+            p = put_element(out, p, x, t, raw, state, first, second, g, i, k);
+            i += 1;
+            k += 1;
+        } else {
+            g += 1;
+            i = 0;
+        }
+    }
+    p
+}
+
+// Puts the header.
+fn put_header(out: &mut [u8]) -> usize
+    ensures { λ r. ⌜ Put 0 header (now (out .entry)) r (now (out .exit)) × (r ≤ 2 ^ 24) ⌝ }
+{
+    put_slice(out, 0, b"name\tpart\tindex\traw\tphysical\n", 0, HEADER)
+}
+
+// Puts the whole listing into a buffer, and says how many bytes it has. What is past the buffer's end is stored nowhere.
+fn put_listing(
+    out: &mut [u8],
+    x: &[u8],
+    t: &[u64],
+    raw: &[i64],
+    state: &[u8],
+    first: &[i64],
+    second: &[i64],
+) -> usize
+    requires { ⌜ (length (now x) ≤ 2 ^ 24) × (sumBelow (tablesIn (now t) .counts group) (elements (tablesIn (now t))) ≤ 4096) ⌝ }
+    ensures { λ r. ⌜ Put 0 (printed (now (x .entry)) (now (t .entry)) (columns (now (raw .entry)) (now (state .entry)) (now (first .entry)) (now (second .entry)))) (now (out .entry)) r (now (out .exit)) ⌝ }
+{
+    let e = put_header(out);
+    put_elements(out, e, x, t, raw, state, first, second)
+}
+
+// Writes the whole listing of a kept list. It is measured first, into a buffer that holds next to none of it.
+pub fn listing(
+    x: &[u8],
+    image: &[u8],
+    base: u32,
+    t: &[u64],
+    raw: &[i64],
+    state: &[u8],
+    first: &[i64],
+    second: &[i64],
+    out: &mut [u8],
+) -> ListingAnswer
+    ensures { λ r. ⌜ listedOf r (now (out .exit))
+        ≡ listing (now (x .entry)) (now (t .entry)) base (kept (now (image .entry)) (now (raw .entry)) (now (state .entry)) (now (first .entry)) (now (second .entry))) (now (out .entry)) ⌝ }
+{
+    let no = check_list(x, image, base, t, raw, state, first, second);
+    if no != 0 {
+        return ListingAnswer::Refused { no };
+    }
+    let mut nothing = [0u8; 1];
+    let need = put_listing(&mut nothing, x, t, raw, state, first, second);
+    if out.len() < need {
+        return ListingAnswer::Refused { no: BAD_SIZE };
+    }
+    ListingAnswer::Written(put_listing(out, x, t, raw, state, first, second))
+}

@@ -1,0 +1,14 @@
+pub mod Tables
+pub mod Acts
+pub mod Steps
+pub mod Filled
+pub mod Complete
+pub mod Words
+pub mod Shapes
+pub mod Rests
+pub mod Claims
+pub mod Keywords
+pub mod Values
+pub mod Sound
+pub mod Accepted
+pub mod Examples

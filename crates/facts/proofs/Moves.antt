@@ -60,17 +60,17 @@ threeOf a b c = record { negative = eqb a 1; whole = b; tens = min c 7 }
 -- what is true of the numbers that the parameter of a state keeps, in a text of n bytes
 pub record Fits (n : ℕ) (v : View) (s : State) (a b c : ℕ) : Type 0 where
   pub some : wideOf (kindOf s) ≡ 0 → ⊥
-  pub words : wideOf (kindOf s) ≡ 2 → (a ≤ b) × (b ≤ n)
+  pub words : wideOf (kindOf s) ≡ 2 → (a < b) × (b ≤ n)
   pub upper : kindOf s ≡ 10 → atMost (decimalIn v (secOf s) (slotOf s - 3)) (threeOf a b c) ≡ true
 
 -- the cases: nothing is written; a keyword of row i; a new record's name; a parameter that is kept; a pair's number; a pair's text
 pub record Cases (n : ℕ) (v : View) (s : State) (P : State → Act → Type 0) : Type 0 where
   pub passing : s .param ≡ 0 → (t : State) → t .param ≡ 0 → P t idle
   pub standing : s .param ≡ 0 → (t : State) (i : ℕ) → P t (counting v i)
-  pub naming : kindOf s ≡ 6 → (t : State) (a e : ℕ) → a ≤ e → e ≤ n → P t (newRecord (secOf s) 4 a e (v .counts (slotOf s)) (s .block))
+  pub naming : kindOf s ≡ 6 → (t : State) (a e : ℕ) → a < e → e ≤ n → P t (newRecord (secOf s) 4 a e (v .counts (slotOf s)) (s .block))
   pub keeps : (t : State) → ((kindOf s ≡ 11 → ⊥) → t .param ≡ nextOf s) → (a b c : ℕ) → Fits n v s a b c → P t (keeping s (wideOf (kindOf s)) a b c)
   pub pairing : kindOf s ≡ 12 → (t : State) → t .param ≡ nextOf s → (a b : ℕ) → P t (newRecord entry 2 a b 0 0)
-  pub telling : kindOf s ≡ 13 → (t : State) (a e : ℕ) → a ≤ e → e ≤ n → P t (writes entry 2 2 a e 0)
+  pub telling : kindOf s ≡ 13 → (t : State) (a e : ℕ) → a < e → e ≤ n → P t (writes entry 2 2 a e 0)
 
 or-false : (a b : Bool) → (a || b) ≡ false → (a ≡ false) × (b ≡ false)
 or-false true b e = absurd (false≢true (sym e))

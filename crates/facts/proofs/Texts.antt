@@ -86,6 +86,13 @@ says j k h =
 
 -- ---- one step
 
+-- inside the description, and with a byte where there is an end
+abbrev Told : ℕ → ℕ → ℕ → Type 0
+Told n a e = Inside n a e × ((e ≡ 0 → ⊥) → a < e)
+
+some-told : (n a e : ℕ) → a < e → e ≤ n → Told n a e
+some-told n a e l m = ((omega arith, m), λ z. l)
+
 module _ (j k : ℕ) (f : Says j k) where
   -- an act that writes neither of the two slots
   abbrev Clear : Act → Type 0
@@ -115,7 +122,7 @@ module _ (j k : ℕ) (f : Says j k) where
 
   -- a text in the two slots of every record
   abbrev Texts : ℕ → List (List (List ℕ)) → Type 0
-  Texts n d = (i : ℕ) → Inside n (slot d j i k) (slot d j i (k + 1))
+  Texts n d = (i : ℕ) → Told n (slot d j i k) (slot d j i (k + 1))
 
   module _ (n : ℕ) (s : State) (d : List (List (List ℕ))) (g : Good sections d) (inv : Texts n d) where
     cleared : (a : Act) → Clear a → Texts n (applied a d)
@@ -129,9 +136,9 @@ module _ (j k : ℕ) (f : Says j k) where
       beside (inr l) = inr (omega arith)
 
     -- an act that writes a text in the two slots
-    told : (a : Act) → a .sec ≡ j → a .slot ≡ k → 1 < length (values a) → Inside n (getD (values a) 0 0) (getD (values a) 1 0) → Texts n (applied a d)
+    told : (a : Act) → a .sec ≡ j → a .slot ≡ k → 1 < length (values a) → Told n (getD (values a) 0 0) (getD (values a) 1 0) → Texts n (applied a d)
     told a c l m h i = by-last (eqb (suc i) (count (applied a d) j)) refl where
-      by-last : (b : Bool) → eqb (suc i) (count (applied a d) j) ≡ b → Inside n (slot (applied a d) j i k) (slot (applied a d) j i (k + 1))
+      by-last : (b : Bool) → eqb (suc i) (count (applied a d) j) ≡ b → Told n (slot (applied a d) j i k) (slot (applied a d) j i (k + 1))
       by-last true q =
           let e : suc i ≡ count (applied a d) (a .sec) = eqb-true (suc i) (count (applied a d) j) q ∙ ap (count (applied a d)) (sym c) in
           let w : k + 1 < widthOf sections (a .sec) = rw c (f .wide) in
@@ -142,13 +149,13 @@ module _ (j k : ℕ) (f : Says j k) where
       by-last false q =
           rw (other-slot a d j i k (eqb-false (suc i) (count (applied a d) j) q), other-slot a d j i (k + 1) (eqb-false (suc i) (count (applied a d) j) q)) (inv i)
 
-    named : kindOf s ≡ 6 → (a e : ℕ) → a ≤ e → e ≤ n → Texts n (applied (newRecord (secOf s) 4 a e (count d (slotOf s)) (s .block)) d)
+    named : kindOf s ≡ 6 → (a e : ℕ) → a < e → e ≤ n → Texts n (applied (newRecord (secOf s) 4 a e (count d (slotOf s)) (s .block)) d)
     named w a e l m = by-section (eqb (secOf s) j) refl where
       act : Act
       act = newRecord (secOf s) 4 a e (count d (slotOf s)) (s .block)
 
       by-slot : secOf s ≡ j → (eqb k 0 ≡ true) ⊎ (leb 4 k ≡ true) → Texts n (applied act d)
-      by-slot c (inl h) = told act c (sym (eqb-true k 0 h)) (omega arith) (l, m)
+      by-slot c (inl h) = told act c (sym (eqb-true k 0 h)) (omega arith) (some-told n a e l m)
       by-slot c (inr h) = cleared act (λ q. inr (leb-true 4 k h))
 
       by-section : (b : Bool) → eqb (secOf s) j ≡ b → Texts n (applied act d)
@@ -171,7 +178,7 @@ module _ (j k : ℕ) (f : Says j k) where
           let q : (eqb (wideOf (kindOf s)) 2 && eqb (slotOf s) k) ≡ true = implied (touches j k (kindOf s) (slotOf s) (secOf s)) _ (f .kept (s .param)) t in
           let w : wideOf (kindOf s) ≡ 2 = eqb-true (wideOf (kindOf s)) 2 (and-left (eqb (wideOf (kindOf s)) 2) (eqb (slotOf s) k) q) in
           rw w (told (writes (secOf s) (slotOf s) 2 x y z) (eqb-true (secOf s) j (and-left (eqb (secOf s) j) _ t))
-          (eqb-true (slotOf s) k (and-right (eqb (wideOf (kindOf s)) 2) (eqb (slotOf s) k) q)) (omega arith) (h .words w))
+          (eqb-true (slotOf s) k (and-right (eqb (wideOf (kindOf s)) 2) (eqb (slotOf s) k) q)) (omega arith) (some-told n x y (h .words w .0) (h .words w .1)))
 
       kept-text : Texts n (applied (keeping s (wideOf (kindOf s)) x y z) d)
       unfolding keeping
@@ -180,10 +187,10 @@ module _ (j k : ℕ) (f : Says j k) where
         by-touch o true t = touching t
         by-touch o false t = cleared (writes (secOf s) (slotOf s) (wideOf (kindOf s)) x y z) (clear-writes t o)
 
-    pair-text : (a e : ℕ) → a ≤ e → e ≤ n → Texts n (applied (writes entry 2 2 a e 0) d)
+    pair-text : (a e : ℕ) → a < e → e ≤ n → Texts n (applied (writes entry 2 2 a e 0) d)
     pair-text a e l m = by-section (eqb j entry) refl where
       by-slot : j ≡ entry → (eqb k 2 ≡ true) ⊎ (leb 4 k ≡ true) → Texts n (applied (writes entry 2 2 a e 0) d)
-      by-slot c (inl h) = told (writes entry 2 2 a e 0) (sym c) (sym (eqb-true k 2 h)) (omega arith) (l, m)
+      by-slot c (inl h) = told (writes entry 2 2 a e 0) (sym c) (sym (eqb-true k 2 h)) (omega arith) (some-told n a e l m)
       by-slot c (inr h) = cleared (writes entry 2 2 a e 0) (λ q. inr (leb-true 4 k h))
 
       by-section : (b : Bool) → eqb j entry ≡ b → Texts n (applied (writes entry 2 2 a e 0) d)
@@ -201,10 +208,17 @@ module _ (j k : ℕ) (f : Says j k) where
     }
 
 -- in every description that was read
-pub text-inside : (j k : ℕ) → isText j k ≡ true → (x : List ℕ) (d : List (List (List ℕ))) → read x ≡ given d → (i : ℕ) → Inside (length x) (slot d j i k) (slot d j i (k + 1))
-text-inside j k h x =
+text-told : (j k : ℕ) → isText j k ≡ true → (x : List ℕ) (d : List (List (List ℕ))) → read x ≡ given d → (i : ℕ) → Told (length x) (slot d j i k) (slot d j i (k + 1))
+text-told j k h x =
     read-has x (λ s. Texts j k (says j k h) (length x)) (Texts j k (says j k h) (length x)) (λ s d g w. steps j k (says j k h) (length x) s d g w) (λ s d g z w. w)
-    (λ i. rw (start-slot j i k, start-slot j i (k + 1)) (omega arith, omega arith))
+    (λ i. rw (start-slot j i k, start-slot j i (k + 1)) ((omega arith, omega arith), λ z. absurd (z refl)))
+
+pub text-inside : (j k : ℕ) → isText j k ≡ true → (x : List ℕ) (d : List (List (List ℕ))) → read x ≡ given d → (i : ℕ) → Inside (length x) (slot d j i k) (slot d j i (k + 1))
+text-inside j k h x d r i = text-told j k h x d r i .0
+
+-- a text that is there has a byte
+pub text-some : (j k : ℕ) → isText j k ≡ true → (x : List ℕ) (d : List (List (List ℕ))) → read x ≡ given d → (i : ℕ) → (slot d j i (k + 1) ≡ 0 → ⊥) → slot d j i k < slot d j i (k + 1)
+text-some j k h x d r i z = text-told j k h x d r i .1 z
 
 -- ---- the texts
 

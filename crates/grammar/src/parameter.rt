@@ -1,8 +1,6 @@
 // A token where a parameter is expected.
 use crate::names::Found;
 use crate::names::find;
-use rows::limit_cell;
-use rows::param_cell;
 use crate::state::Act;
 use crate::state::ITEMS;
 use crate::state::Move;
@@ -19,6 +17,8 @@ use crate::view::slot_of;
 use number::decimal::Decimal;
 use number::decimal::DecimalAnswer;
 use number::whole::WholeAnswer;
+use rows::limit_cell;
+use rows::param_cell;
 use text::cursor::Cursor;
 use words::class::Class;
 ghost use mathlib.Core.Path.{_≡_};

@@ -22,14 +22,14 @@ use Rattle.objects.proofs.Each.{led-below, In, in-either, each-turn, un
 
 -- ---- sums
 
-sum-same : (n : ℕ) (f g : ℕ → ℕ) → ((k : ℕ) → k < n → f k ≡ g k) → sumBelow n f ≡ sumBelow n g
+pub sum-same : (n : ℕ) (f g : ℕ → ℕ) → ((k : ℕ) → k < n → f k ≡ g k) → sumBelow n f ≡ sumBelow n g
 unfolding sumBelow
 sum-same zero f g h = refl
 sum-same (suc n) f g h = rw (sum-same n f g (λ k l. h k (omega arith)), h n (omega arith))
 
 -- g is f, and has d more at j
 module _ (f g : ℕ → ℕ) (j d : ℕ) (other : (k : ℕ) → (k ≡ j → ⊥) → g k ≡ f k) (more : g j ≡ f j + d) where
-  sum-more : (n : ℕ) → j < n → sumBelow n g ≡ sumBelow n f + d
+  pub sum-more : (n : ℕ) → j < n → sumBelow n g ≡ sumBelow n f + d
   unfolding sumBelow
   sum-more zero h = absurd (omega arith)
   sum-more (suc n) h = last (eqb j n) refl (sum-more n)
@@ -49,10 +49,10 @@ module _ (image : List ℕ) (base : ℕ) (x : List ℕ) (v : View) where
 
   -- ---- the sum over the objects that were judged
 
-  abbrev counted : List ℕ → ℕ → ℕ
+  abbrev pub counted : List ℕ → ℕ → ℕ
   counted seen i = cond (eqb (getD seen i 0) 0) 0 (elementsOf image base x v i)
 
-  abbrev sumOf : List ℕ → ℕ
+  abbrev pub sumOf : List ℕ → ℕ
   sumOf seen = sumBelow (v .counts object) (counted seen)
 
   counted-other : (seen : List ℕ) (j k : ℕ) → (k ≡ j → ⊥) → counted (set seen j 1) k ≡ counted seen k
@@ -61,7 +61,7 @@ module _ (image : List ℕ) (base : ℕ) (x : List ℕ) (v : View) where
   counted-more : (seen : List ℕ) (j : ℕ) → j < length seen → eqb (getD seen j 0) 0 ≡ true → counted (set seen j 1) j ≡ counted seen j + elementsOf image base x v j
   counted-more seen j l e = rw (getD-set-same seen j 1 0 l, e) (let z : 0 + elementsOf image base x v j ≡ elementsOf image base x v j = omega arith in sym z)
 
-  sum-marked : (seen : List ℕ) (j : ℕ) → j < length seen → j < v .counts object → eqb (getD seen j 0) 0 ≡ true → sumOf (set seen j 1) ≡ sumOf seen + elementsOf image base x v j
+  pub sum-marked : (seen : List ℕ) (j : ℕ) → j < length seen → j < v .counts object → eqb (getD seen j 0) 0 ≡ true → sumOf (set seen j 1) ≡ sumOf seen + elementsOf image base x v j
   sum-marked seen j l h e = sum-more (counted seen) (counted (set seen j 1)) j (elementsOf image base x v j) (counted-other seen j) (counted-more seen j l e) (v .counts object) h
 
   -- object j's turn, after which there are u elements
@@ -157,14 +157,14 @@ module _ (image : List ℕ) (base : ℕ) (x : List ℕ) (v : View) where
   below-either f i j h ih (inl m) = turn-below i j h (in-either j (named x v i 0) (named x v i 1 ++ (i ∷ [])) m)
   below-either f i j h ih (inr m) = ih m
 
-  turns-below : (f i j : ℕ) → i + f ≤ v .counts object → In j (turnsFrom f x v i) → j < v .counts object
+  pub turns-below : (f i j : ℕ) → i + f ≤ v .counts object → In j (turnsFrom f x v i) → j < v .counts object
   unfolding turnsFrom
   turns-below zero i j h m = absurd m
   turns-below (suc f) i j h m = below-either f i j (omega arith) (turns-below f (suc i) j (omega arith)) (in-either j (turnsOf x v i) (turnsFrom f x v (suc i)) m)
 
   -- ---- all objects
 
-  sum-none : (k n : ℕ) → sumBelow n (counted (replicate k 0)) ≡ 0
+  pub sum-none : (k n : ℕ) → sumBelow n (counted (replicate k 0)) ≡ 0
   unfolding sumBelow
   sum-none k zero = refl
   sum-none k (suc n) = rw (unmarked k n, sum-none k n)

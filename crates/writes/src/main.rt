@@ -20,10 +20,10 @@ use listing::listing::listing;
 use load::LoadAnswer;
 use load::load;
 
-// The most bytes of the input, of the image and of the listing; how many lines the list has room for.
+// The most bytes of the input and of the listing, the bytes of the image; how many lines the list has room for.
 const TEXT_BYTES: usize = 32768;
 
-const IMAGE_BYTES: usize = 64;
+const IMAGE_BYTES: usize = 32;
 
 const OUT_BYTES: usize = 16384;
 
@@ -34,9 +34,7 @@ const TABLE_CELLS: usize = 36617;
 
 const WORK_CELLS: usize = 42578;
 
-// A minus sign; the first letters of `raw`, and of the parts x and y.
-const MINUS: u8 = 45;
-
+// The first letter of `raw`, and the letters of the parts.
 const RAW: u8 = 114;
 
 const X: u8 = 120;
@@ -56,16 +54,6 @@ fn part_of(s: &[u8]) -> u8 {
         V => 2,
         _ => 3,
     }
-}
-
-// A whole number with an optional minus sign.
-fn signed_at(s: &[u8]) -> i64 {
-    if 0 < s.len() {
-        if s[0] == MINUS {
-            return 0 - (number_at(&s[1..]) as i64);
-        }
-    }
-    number_at(s) as i64
 }
 
 // Writes a request's number and its answer.
@@ -106,11 +94,37 @@ fn apply(
     let value = between(line, next(d), line.len());
     if 0 < word.len() {
         if word[0] == RAW {
-            let number = signed_at(value);
-            return write_raw(x, image, base, t, raw, state, first, second, object, part, index, number);
+            let number = number_at(value) as i64;
+            return write_raw(
+                x,
+                image,
+                base,
+                t,
+                raw,
+                state,
+                first,
+                second,
+                object,
+                part,
+                index,
+                number,
+            );
         }
     }
-    write_physical(x, image, base, t, raw, state, first, second, object, part, index, value)
+    write_physical(
+        x,
+        image,
+        base,
+        t,
+        raw,
+        state,
+        first,
+        second,
+        object,
+        part,
+        index,
+        value,
+    )
 }
 
 // The place after one.
@@ -137,7 +151,17 @@ fn apply_all(
         if end < from {
             return;
         }
-        let r = apply(between(q, from, end), x, image, base, t, raw, state, first, second);
+        let r = apply(
+            between(q, from, end),
+            x,
+            image,
+            base,
+            t,
+            raw,
+            state,
+            first,
+            second,
+        );
         print_answer(n, r);
         if q.len() <= end {
             return;
@@ -148,7 +172,16 @@ fn apply_all(
 }
 
 // Writes the listing of the kept list.
-fn print_listing(x: &[u8], image: &[u8], base: u32, t: &[u64], raw: &[i64], state: &[u8], first: &[i64], second: &[i64]) {
+fn print_listing(
+    x: &[u8],
+    image: &[u8],
+    base: u32,
+    t: &[u64],
+    raw: &[i64],
+    state: &[u8],
+    first: &[i64],
+    second: &[i64],
+) {
     let mut out = [0u8; OUT_BYTES];
     match listing(x, image, base, t, raw, state, first, second, &mut out) {
         ListingAnswer::Written(n) => {
@@ -186,10 +219,29 @@ fn run_refused(x: &[u8], image: &[u8], base: u32, t: &[u64]) {
     let mut state = [0u8; LINES];
     let mut first = [0i64; LINES];
     let mut second = [0i64; LINES];
+    let mut one = [0i64; 1];
     let zeros = [0u64; TABLE_CELLS];
-    let short = make_list(x, image, base, t, &mut raw, &mut state, &mut first, &mut second[..1]);
+    let short = make_list(
+        x,
+        image,
+        base,
+        t,
+        &mut raw,
+        &mut state,
+        &mut first,
+        &mut one,
+    );
     print_answer(0, short);
-    let damaged = make_list(x, image, base, &zeros, &mut raw, &mut state, &mut first, &mut second);
+    let damaged = make_list(
+        x,
+        image,
+        base,
+        &zeros,
+        &mut raw,
+        &mut state,
+        &mut first,
+        &mut second,
+    );
     print_answer(0, damaged);
 }
 
@@ -199,10 +251,29 @@ fn run(q: &[u8], x: &[u8], image: &mut [u8], base: u32, t: &[u64]) {
     let mut state = [0u8; LINES];
     let mut first = [0i64; LINES];
     let mut second = [0i64; LINES];
-    let made = make_list(x, image, base, t, &mut raw, &mut state, &mut first, &mut second);
+    let made = make_list(
+        x,
+        image,
+        base,
+        t,
+        &mut raw,
+        &mut state,
+        &mut first,
+        &mut second,
+    );
     print_answer(0, made);
     print_listing(x, image, base, t, &raw, &state, &first, &second);
-    apply_all(q, x, image, base, t, &mut raw, &mut state, &mut first, &mut second);
+    apply_all(
+        q,
+        x,
+        image,
+        base,
+        t,
+        &mut raw,
+        &mut state,
+        &mut first,
+        &mut second,
+    );
     print_listing(x, image, base, t, &raw, &state, &first, &second);
     print_hex(image);
 }
@@ -232,13 +303,11 @@ fn run_all(s: &[u8]) {
     let end = place_from(s, 0, LF);
     let gap = place_from(s, 0, SPACE);
     let mut image = [0u8; IMAGE_BYTES];
-    let m = bytes_of(between(s, next(gap), end), &mut image);
+    bytes_of(between(s, next(gap), end), &mut image);
     let base = number_at(between(s, 0, gap));
     if part < s.len() {
-        if m <= IMAGE_BYTES {
-            let q = between(s, part + PART_BYTES, s.len());
-            run_loaded(q, between(s, next(end), part), &mut image[..m], base);
-        }
+        let q = between(s, part + PART_BYTES, s.len());
+        run_loaded(q, between(s, next(end), part), &mut image, base);
     }
 }
 

@@ -1,0 +1,50 @@
+-- What a load accepts, stage by stage, with no word of how it goes about it (proofs/Exactly.antt).
+use Prim.Native.Nat.{ℕ, _+_, _≤_, _<_}
+use mathlib.Core.Path.{_≡_}
+use mathlib.Core.List.{List, [], _∷_}
+use mathlib.Core.Bool.{true}
+use mathlib.Core.Logic.{_⊎_}
+use Rattle.text.specs.Answer.{given}
+use Rattle.number.specs.Form.{isGiven}
+use Rattle.records.specs.Records.{count, slot}
+use Rattle.rows.specs.Sections.{method, object}
+use Rattle.grammar.specs.Move.{view}
+use Rattle.grammar.specs.Read.{read}
+use Rattle.refer.specs.Refer.{rows, leads}
+use Rattle.refer.specs.declared.Row.{Row}
+use Rattle.methods.specs.Methods.{coefficients}
+use Rattle.place.specs.Judge.{allInside}
+use Rattle.place.specs.Walk.{placement}
+use Rattle.objects.specs.Object.{layoutOf, groundOf, needOf, maskFits, placesOf, elementsOf}
+use Rattle.objects.specs.Stage.{sumBelow}
+use Rattle.build.specs.Build.{built}
+
+-- a is one of them
+abbrev pub Among : {A : Type 0} → A → List A → Type 0
+Among a [] = ⊥
+Among a (b ∷ bs) = (a ≡ b) ⊎ Among a bs
+
+-- how many elements all objects have
+abbrev pub allElements : List ℕ → ℕ → List ℕ → List (List (List ℕ)) → ℕ
+allElements image base x d = sumBelow (count d object) (elementsOf image base x (view d))
+
+-- the records d, read from the description x, keep the rules of the stages after the text, with an image at a base address
+pub record Accepted (image : List ℕ) (base : ℕ) (x : List ℕ) (d : List (List (List ℕ))) : Type 0 where
+  -- "a reference that leads nowhere stops the load": each that is there, its place past the last byte not 0, leads somewhere
+  pub references : (r : Row) → Among r rows → (i : ℕ) → i < count d (r .sec) → (slot d (r .sec) i (r .slot + 1) ≡ 0 → ⊥)
+      → leads x (view d) r (slot d (r .sec) i (r .slot)) (slot d (r .sec) i (r .slot + 1)) ≡ true
+  -- "then conversions": every method has its coefficients
+  pub conversions : (i : ℕ) → i < count d method → isGiven (coefficients (view d) i) ≡ true
+  -- "then each object's layout and mask (11), counts (12, 13) .. element bytes (12)"
+  pub masks : (i : ℕ) → i < count d object → maskFits x (view d) i ≡ true
+  pub places : (i : ℕ) → i < count d object → isGiven (placement (groundOf x (view d) base i) (needOf image base x (view d) i) image (layoutOf x (view d) i)) ≡ true
+  pub bytes : (i : ℕ) → i < count d object → allInside image base (needOf image base x (view d) i) (layoutOf x (view d) i) (placesOf image base x (view d) i) ≡ true
+  -- "4,096 elements in all objects"
+  pub elements : allElements image base x d ≤ 4096
+
+-- D are the tables of a description that is accepted
+pub record Taken (image : List ℕ) (base : ℕ) (x : List ℕ) (D : List (List (List ℕ))) : Type 0 where
+  pub records : List (List (List ℕ))
+  pub is-read : read x ≡ given records
+  pub accepted : Accepted image base x records
+  pub is-built : D ≡ built image base x (view records) (allElements image base x records)

@@ -1,0 +1,3 @@
+-- What a load accepts, and where its elements stand.
+pub mod Accepted
+pub mod Stands

@@ -1,0 +1,1 @@
+// What is true of the tables of every load that was accepted: theorems alone, in specs and proofs.

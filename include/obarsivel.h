@@ -1,0 +1,183 @@
+/* obarsivel: the proved reader of descriptions, images and value lists.
+ *
+ * Link libffi.a (rt staticlib ffi). x86-64, System V calling convention.
+ *
+ * Every pointer is followed by its length in elements, points to that many
+ * readable (const) or readable and writable elements of its type, and is
+ * aligned for it. A length may be 0; the pointer must not be NULL even then.
+ * Buffers that a call writes overlap no other buffer of the same call. Nothing
+ * is kept between calls, nothing is allocated, and calls on different buffers
+ * may run at the same time.
+ *
+ * The same four things begin every call after the load, as they were at it:
+ *   text, text_len     the description, at most 16 MiB
+ *   image, image_len   the image, at most 1 MiB; its bytes may have changed
+ *   base               the address of the image's first byte;
+ *                      base + image_len is at most 2^32
+ *   tables, tables_len what obarsivel_load has filled, 36,617 cells or more
+ *
+ * Refusals (document 01's numbers). 20 comes first and leaves everything
+ * untouched: a lent buffer is too short, text or image too long, or base plus
+ * image above 2^32. 22 comes next in every call after the load: the tables
+ * break the table rule. No refusal touches image or list.
+ *    1 a token that the rules don't allow, or unclosed
+ *    2 a number outside its form
+ *    3 begin and end don't match, too deep, text ends early, or text after
+ *      PROJECT's end
+ *    4 a keyword that document 000 doesn't list
+ *    5 a parameter or needed keyword missing, of the wrong kind, misplaced or
+ *      unused, or lower limit above upper
+ *    6 a name or a once-only keyword twice, or one AXIS_DESCR too many
+ *    7 a reference that leads nowhere
+ *    8 a capacity exceeded
+ *    9 a keyword of document 000 that is not taken, or a or d not 0
+ *   10 b*f = c*e, or one of the four above 10^9
+ *   11 layout breaks the rules of place or lacks a part; mask breaks its rule
+ *   12 a byte outside the image
+ *   13 stored count out of range
+ *   14 no such element
+ *   15 asked value outside its form, or physical write under TAB_VERB
+ *   16 asked value outside limits
+ *   17 no raw value exists
+ *   18 doesn't fit type or mask
+ *   19 the element to write shares a byte with any stored count
+ *   20 a lent buffer too short, text or image too long, base plus image > 2^32
+ *   21 MEASUREMENT or READ_ONLY
+ *   22 a lent table breaks the table rule
+ */
+#ifndef OBARSIVEL_H
+#define OBARSIVEL_H
+
+#include <stddef.h>
+#include <stdint.h>
+
+#ifdef __cplusplus
+extern "C" {
+#endif
+
+/* Cells of the tables at full capacity, and cells that a load works in. */
+#define OBARSIVEL_TABLE_CELLS 36617
+#define OBARSIVEL_WORK_CELLS 42578
+
+/* The tables' cell that holds how many elements all objects have: the lines
+ * that the list's four columns need. */
+#define OBARSIVEL_ELEMENTS_CELL 3
+
+/* The most elements that all objects can have. */
+#define OBARSIVEL_MOST_ELEMENTS 4096
+
+/* An object's parts. */
+#define OBARSIVEL_PART_X 0
+#define OBARSIVEL_PART_Y 1
+#define OBARSIVEL_PART_V 2
+
+/* States of a line: no physical value (first and second are 0); a fraction
+ * first / second, not cancelled, second above 0; a text from byte first of the
+ * description up to the one before second, quotes included. */
+#define OBARSIVEL_STATE_NONE 0
+#define OBARSIVEL_STATE_NUMBER 1
+#define OBARSIVEL_STATE_TEXT 2
+
+/* Reads a description against an image.
+ *   tables  36,617 cells or more; any content before. Accepted: filled, cells
+ *           past 36,617 zero. Refused: all zero, but with 20 untouched.
+ *   work    42,578 cells or more; any content before; zero after, but with 20
+ *           untouched. It need not be kept.
+ * Answers 0 (accepted), or place * 64 + number with number 1 to 13 or 20. The
+ * place is the refusal's first byte in the description (0 with 20). */
+uint64_t obarsivel_load(const uint8_t *text, size_t text_len,
+                        const uint8_t *image, size_t image_len, uint32_t base,
+                        uint64_t *tables, size_t tables_len,
+                        uint64_t *work, size_t work_len);
+
+/* Finds the first object that bears a name.
+ * Answers its number (objects count from 0 in text order), -1 if none bears
+ * it, or -20, -22. */
+int64_t obarsivel_find(const uint8_t *text, size_t text_len,
+                       const uint8_t *image, size_t image_len, uint32_t base,
+                       const uint64_t *tables, size_t tables_len,
+                       const uint8_t *name, size_t name_len);
+
+/* Reads one element from the image.
+ *   object, part, index  the element, all from 0
+ *   out    5 cells or more; 0 to 4 become: raw value, state, first, second,
+ *          what is shown (0 nothing, 1 the number in shown[0], 2 the text
+ *          whose places are first and second)
+ *   shown  1 cell or more; the number is one binary64 division of first by
+ *          second, given where both are at most 2^53 in size. Where out[4] is
+ *          not 1, shown[0] means nothing.
+ * Answers 0, or 20, 22, 14; then out and shown mean nothing (20: untouched). */
+uint32_t obarsivel_read(const uint8_t *text, size_t text_len,
+                        const uint8_t *image, size_t image_len, uint32_t base,
+                        const uint64_t *tables, size_t tables_len,
+                        uint32_t object, uint8_t part, uint32_t index,
+                        int64_t *out, size_t out_len,
+                        double *shown, size_t shown_len);
+
+/* Makes the value list: works out a line per element, objects in text order,
+ * within each x points, y points, values, by index, x fastest in a map.
+ *   raw, state, first, second  the four columns, each at least as many cells
+ *          as the tables' element cell says; cells past that stay untouched
+ * Answers 0, or 20, 22. */
+uint32_t obarsivel_make_list(const uint8_t *text, size_t text_len,
+                             const uint8_t *image, size_t image_len, uint32_t base,
+                             const uint64_t *tables, size_t tables_len,
+                             int64_t *raw, size_t raw_len,
+                             uint8_t *state, size_t state_len,
+                             int64_t *first, size_t first_len,
+                             int64_t *second, size_t second_len);
+
+/* Writes a raw value: type and mask are tested, limits are not. An accepted
+ * write changes the element's bytes under its mask, and works out afresh every
+ * line that shares a byte with it, and no other.
+ *   image  written; the columns as for obarsivel_make_list
+ * Answers 0, or 20, 22, 14, 21, 19, 18, the first that holds in this order. */
+uint32_t obarsivel_write_raw(const uint8_t *text, size_t text_len,
+                             uint8_t *image, size_t image_len, uint32_t base,
+                             const uint64_t *tables, size_t tables_len,
+                             int64_t *raw, size_t raw_len,
+                             uint8_t *state, size_t state_len,
+                             int64_t *first, size_t first_len,
+                             int64_t *second, size_t second_len,
+                             uint32_t object, uint8_t part, uint32_t index,
+                             int64_t value);
+
+/* Writes the raw value nearest to an asked physical one, halves away from
+ * zero; else as obarsivel_write_raw.
+ *   asked  a decimal: optional sign, 1 to 10 digits in all, an optional point
+ *          with digits on both sides, at most 6 after it; its whole number,
+ *          needless zeros dropped, at most 10^9. No blanks, no end mark.
+ * Answers 0, or 20, 22, 14, 21, 19, 15, 16, 17, 18, the first that holds in
+ * this order. */
+uint32_t obarsivel_write_physical(const uint8_t *text, size_t text_len,
+                                  uint8_t *image, size_t image_len, uint32_t base,
+                                  const uint64_t *tables, size_t tables_len,
+                                  int64_t *raw, size_t raw_len,
+                                  uint8_t *state, size_t state_len,
+                                  int64_t *first, size_t first_len,
+                                  int64_t *second, size_t second_len,
+                                  uint32_t object, uint8_t part, uint32_t index,
+                                  const uint8_t *asked, size_t asked_len);
+
+/* Prints the list: a header line, then a line per element (name, part, index,
+ * raw, physical, parted by tabs, ended by LF; a none is "-").
+ *   raw, state, first, second  the columns as obarsivel_make_list and the
+ *          writes leave them
+ *   out    room for all of it; bytes past the printed ones stay untouched. A
+ *          line takes the name's length and at most 34 bytes, and 41 more for
+ *          a fraction or its text's length; the header takes 29.
+ * Answers how many bytes it wrote, or -20 (out too short included; nothing is
+ * written then), -22. */
+int64_t obarsivel_listing(const uint8_t *text, size_t text_len,
+                          const uint8_t *image, size_t image_len, uint32_t base,
+                          const uint64_t *tables, size_t tables_len,
+                          const int64_t *raw, size_t raw_len,
+                          const uint8_t *state, size_t state_len,
+                          const int64_t *first, size_t first_len,
+                          const int64_t *second, size_t second_len,
+                          uint8_t *out, size_t out_len);
+
+#ifdef __cplusplus
+}
+#endif
+#endif

@@ -1,0 +1,95 @@
+//! The wrapper's own doings: refusals in words, places, lines, parts, the listing's room.
+use obarsivel::{line_and_column, Description, Part, Physical, Refusal, Shown};
+
+/// A map with stored axes (COLUMN_DIR, y turned) and a verbal value.
+const TEXT: &str = r#"/begin PROJECT P "" /begin MODULE M ""
+/begin RECORD_LAYOUT LM NO_AXIS_PTS_X 1 UBYTE AXIS_PTS_X 2 UBYTE INDEX_INCR DIRECT
+  AXIS_PTS_Y 3 UBYTE INDEX_DECR DIRECT FNC_VALUES 4 UBYTE COLUMN_DIR DIRECT /end RECORD_LAYOUT
+/begin RECORD_LAYOUT LV FNC_VALUES 1 SBYTE ROW_DIR DIRECT /end RECORD_LAYOUT
+/begin COMPU_METHOD C "" TAB_VERB "" "" COMPU_TAB_REF T /end COMPU_METHOD
+/begin COMPU_VTAB T "" TAB_VERB 1 1 "a ""word""" /end COMPU_VTAB
+/begin CHARACTERISTIC FIELD "" MAP 0 LM 0 NO_COMPU_METHOD 0 100
+  /begin AXIS_DESCR STD_AXIS NO_INPUT_QUANTITY NO_COMPU_METHOD 3 0 100 READ_ONLY /end AXIS_DESCR
+  /begin AXIS_DESCR STD_AXIS NO_INPUT_QUANTITY NO_COMPU_METHOD 2 0 100 /end AXIS_DESCR /end CHARACTERISTIC
+/begin CHARACTERISTIC SWITCH "" VALUE 11 LV 0 C 0 1 /end CHARACTERISTIC
+/end MODULE /end PROJECT
+"#;
+
+/// Its image: a count of 3, x, y from the last point, columns of the map, the switch.
+const IMAGE: [u8; 12] = [3, 10, 20, 30, 2, 1, 11, 12, 21, 22, 31, 1];
+
+#[test]
+fn lines_and_listing() {
+    let reader = Description::load(TEXT, IMAGE, 0).unwrap();
+    assert_eq!(reader.objects(), 2);
+    assert_eq!(reader.name(0), Some(&b"FIELD"[..]));
+    assert_eq!(reader.name(2), None);
+    let parts = [Part::X, Part::Y, Part::V].map(|part| reader.elements(0, part));
+    assert_eq!(parts, [3, 2, 6]);
+    assert_eq!(reader.elements(7, Part::X), 0);
+    let raws: Vec<i64> = reader.lines().map(|line| line.raw).collect();
+    assert_eq!(raws, [10, 20, 30, 1, 2, 11, 21, 31, 12, 22, 1, 1]);
+    let last = reader.lines().last().unwrap();
+    assert_eq!((last.object, last.part, last.index), (1, Part::V, 0));
+    assert_eq!(last.physical, Physical::Text(br#""a ""word""""#));
+    let printed = String::from_utf8(reader.listing().unwrap()).unwrap();
+    assert!(printed.starts_with("name\tpart\tindex\traw\tphysical\nFIELD\tx\t0\t10\t10/1\n"), "{printed}");
+    assert!(printed.ends_with("SWITCH\tv\t0\t1\t\"a \"\"word\"\"\"\n"), "{printed}");
+    assert_eq!(printed.lines().count(), 13);
+}
+
+#[test]
+fn reads_and_writes_keep_the_list_in_step() {
+    let mut reader = Description::load(TEXT.as_bytes(), &IMAGE[..], 0).unwrap();
+    assert_eq!(reader.find(b"SWITCH"), Ok(Some(1)));
+    assert_eq!(reader.find("switch"), Ok(None));
+    assert_eq!(reader.read(1, Part::V, 0).unwrap().shown, Shown::Text(br#""a ""word""""#));
+    // The map's last value shares the switch's byte.
+    assert_eq!(reader.write_raw(0, Part::V, 5, 7), Ok(()));
+    let after = reader.lines().last().unwrap();
+    assert_eq!((after.raw, after.physical), (7, Physical::None));
+    assert_eq!(reader.read(1, Part::V, 0).unwrap().shown, Shown::Nothing);
+    assert_eq!(reader.read(1, Part::V, 0).unwrap().line, after);
+    let number = |answer: Result<(), Refusal>| answer.unwrap_err().number;
+    assert_eq!(number(reader.write_raw(1, Part::X, 0, 0)), 14);
+    assert_eq!(number(reader.write_physical(1, Part::V, 0, "1")), 15);
+    assert_eq!(number(reader.write_physical(0, Part::V, 0, "101")), 16);
+    assert_eq!(number(reader.write_raw(1, Part::V, 0, 128)), 18);
+    assert_eq!(number(reader.write_raw(0, Part::X, 0, 1)), 21);
+    assert_eq!(reader.read(2, Part::V, 0).unwrap_err().to_string(), "refused 14: no such element");
+    assert_eq!(reader.base(), 0);
+    assert_eq!(reader.clone().into_image(), [3, 10, 20, 30, 2, 1, 11, 12, 21, 22, 31, 7]);
+}
+
+#[test]
+fn refusals_in_words_and_places() {
+    let text = TEXT.replace("COMPU_TAB_REF T", "COMPU_TAB_REF U");
+    let refusal = Description::load(text.as_str(), IMAGE, 0).err().unwrap();
+    let place = text.find("REF U").unwrap() + 4;
+    assert_eq!(refusal, Refusal { number: 7, place });
+    assert_eq!(refusal.to_string(), format!("refused 7 at {place}: a reference that leads nowhere"));
+    let located = refusal.located(text.as_bytes());
+    assert_eq!((located.line, located.column), (5, 55));
+    assert_eq!(
+        located.to_string(),
+        format!("refused 7 at {place} (line 5, column 55): a reference that leads nowhere")
+    );
+    assert_eq!(line_and_column(b"", 0), (1, 1));
+    assert_eq!(line_and_column(b"a\nb", 2), (2, 1));
+    assert_eq!(line_and_column(b"a\n", 9), (2, 1));
+    let empty = Description::load("", [], 0).err().unwrap();
+    assert_eq!(empty, Refusal { number: 3, place: 0 });
+    let sizes = Description::load(TEXT, [0; 2], u32::MAX).err().unwrap();
+    assert_eq!(sizes.number, 20);
+    assert!(sizes.to_string().starts_with("refused 20: a lent buffer is too short"));
+    let numbers = 1..=22;
+    assert!(numbers.map(|number| Refusal { number, place: 0 }).all(|it| it.reason() != "an unknown refusal"));
+}
+
+#[test]
+fn no_objects_at_all() {
+    let text = "/begin PROJECT P \"\" /begin MODULE M \"\" /end MODULE /end PROJECT";
+    let reader = Description::load(text, Vec::new(), 0).unwrap();
+    assert_eq!(reader.lines().count(), 0);
+    assert_eq!(reader.listing().unwrap(), b"name\tpart\tindex\traw\tphysical\n");
+}

@@ -41,7 +41,13 @@ fn minus(no: u8) -> i64 {
 
 // Loads a description: 0, or the refusal's place times 64 and its number.
 #[no_mangle]
-pub extern "C" fn obarsivel_load(text: &[u8], image: &[u8], base: u32, tables: &mut [u64], work: &mut [u64]) -> u64 {
+pub extern "C" fn obarsivel_load(
+    text: &[u8],
+    image: &[u8],
+    base: u32,
+    tables: &mut [u64],
+    work: &mut [u64],
+) -> u64 {
     match load(text, image, base, tables, work) {
         LoadAnswer::Accepted => 0,
         LoadAnswer::Refused { no, place } => (place as u64) % 4294967296 * NUMBERS + (no as u64),
@@ -50,7 +56,13 @@ pub extern "C" fn obarsivel_load(text: &[u8], image: &[u8], base: u32, tables: &
 
 // The number of the object that bears a name; −1 where none does, or −20, −22.
 #[no_mangle]
-pub extern "C" fn obarsivel_find(text: &[u8], image: &[u8], base: u32, tables: &[u64], name: &[u8]) -> i64 {
+pub extern "C" fn obarsivel_find(
+    text: &[u8],
+    image: &[u8],
+    base: u32,
+    tables: &[u64],
+    name: &[u8],
+) -> i64 {
     match search(text, image, base, tables, name) {
         SearchAnswer::At(i) => i as i64,
         SearchAnswer::Nothing => -1,
@@ -161,7 +173,18 @@ pub extern "C" fn obarsivel_write_raw(
     value: i64,
 ) -> u32 {
     number_of(write_raw(
-        text, image, base, tables, raw, state, first, second, object, part, index, value,
+        text,
+        image,
+        base,
+        tables,
+        raw,
+        state,
+        first,
+        second,
+        object,
+        part,
+        index,
+        value,
     ))
 }
 
@@ -182,7 +205,18 @@ pub extern "C" fn obarsivel_write_physical(
     asked: &[u8],
 ) -> u32 {
     number_of(write_physical(
-        text, image, base, tables, raw, state, first, second, object, part, index, asked,
+        text,
+        image,
+        base,
+        tables,
+        raw,
+        state,
+        first,
+        second,
+        object,
+        part,
+        index,
+        asked,
     ))
 }
 

@@ -119,8 +119,9 @@ pub ruleset named-elements = (no-object, no-part, by-index, needs)
 pub reads : (t image : List ℕ) (g i : ℕ) (z y : ℤ) (p : Physical) (s : Shown) → z ≡ rawOf t image g i → y ≡ z → p ≡ held (means t g y) → toldShown s ≡ shown (meant p)
     → toldRead (read.Element z p s) ≡ given (readingOf t g (rawOf t image g i))
 reads t image g i z y p s a b c d =
-    let e : meant p ≡ means t g (rawOf t image g i) = ap meant c ∙ meant-held (means t g y) ∙ rw (b, a) in
-    rw (d, e, a)
+    let e : p ≡ held (means t g (rawOf t image g i)) = c ∙ rw (b, a) in
+    let f : toldShown s ≡ shown (means t g (rawOf t image g i)) = d ∙ ap shown (ap meant e ∙ meant-held (means t g (rawOf t image g i))) in
+    rw (f, e, a)
 
 module _ (t image : List ℕ) (l : Lent) (o p i : ℕ) (r : ℕ) (q : r ≡ checkedNo t l true) where
   pub read-refused : (r ≡ 0 → ⊥) → refused r ≡ reading t image l o p i

@@ -28,11 +28,16 @@ use Rattle.tables.specs.Sizes.{sizesFit}
 use Rattle.text.proofs.Within.{and-right}
 use Rattle.tables.proofs.Reading.{element-inside, total-is}
 use Rattle.list.specs.Element.{rawOf, touched}
-use Rattle.list.specs.Calls.{refusalOf, Lent, lentOf, lentBy, checked, searched, readingOf, reading, Kept, room, groups, hasRoom, remade, After, afterwards, making, rawNumber, Request, request, groupIn, judged, writing, running, lineAt, withImage}
+use Rattle.list.specs.Calls.{refusalOf, Lent, lentOf, lentBy, checked, searched, Reading, readingOf, reading, Kept, room, groups, hasRoom, remade, After, afterwards, making, rawNumber, Request, request, groupIn, judged, writing, running, lineAt, withImage}
 use Rattle.list.specs.Told.{toldSearch, toldRead, toldCall, after}
 use Rattle.list.specs.declared.search.SearchAnswer.{SearchAnswer}
 use Rattle.list.specs.declared.search.SearchAnswer.the-variants as search
 use Rattle.list.specs.declared.read.ReadAnswer.{ReadAnswer}
+use Rattle.list.specs.declared.read.ReadAnswer.the-variants as read
+use Rattle.convert.specs.Shown.{Display, real, words, nothing}
+use Rattle.convert.specs.Told.{toldShown}
+use Rattle.convert.specs.declared.fraction.Shown.{Shown}
+use Rattle.convert.specs.declared.fraction.Shown.the-variants as shown
 use Rattle.list.specs.declared.write.CallAnswer.{CallAnswer}
 use Rattle.list.specs.declared.write.CallAnswer.the-variants as call
 use Rattle.list.proofs.CheckLaws.{checked-tests}
@@ -243,6 +248,24 @@ module _ (t : List ℕ) (n base : ℕ) where
 pub search-one : (x t w : List ℕ) (l : Lent) (r s : SearchAnswer) → toldSearch r ≡ searched x t l w → toldSearch s ≡ searched x t l w → r ≡ s
 search-one x t w l r s p q = same-found r s (p ∙ sym q)
 
--- raw number, value and shown value: the contract speaks of the value, not of the three numbers that hold it
-pub read-one : (t image : List ℕ) (l : Lent) (o p i : ℕ) (r s : ReadAnswer) → toldRead r ≡ reading t image l o p i → toldRead s ≡ reading t image l o p i → toldRead r ≡ toldRead s
-read-one t image l o p i r s x y = x ∙ sym y
+-- what an answer told says which answer it was
+abbrev shownOf : Display → Shown
+shownOf (real x) = shown.Real x
+shownOf (words a b) = shown.Words a b
+shownOf nothing = shown.Nothing
+
+shown-back : (s : Shown) → shownOf (toldShown s) ≡ s
+shown-back (shown.Real x) = refl
+shown-back (shown.Words a b) = refl
+shown-back shown.Nothing = refl
+
+abbrev readOf : Answer Reading → ReadAnswer
+readOf (given r) = read.Element (r .raw) (r .value) (shownOf (r .display))
+readOf (refused n) = read.Refused n
+
+read-back : (r : ReadAnswer) → readOf (toldRead r) ≡ r
+read-back (read.Element z p s) = ap (λ (v : Shown). read.Element z p v) (shown-back s)
+read-back (read.Refused n) = refl
+
+pub read-one : (t image : List ℕ) (l : Lent) (o p i : ℕ) (r s : ReadAnswer) → toldRead r ≡ reading t image l o p i → toldRead s ≡ reading t image l o p i → r ≡ s
+read-one t image l o p i r s x y = sym (read-back r) ∙ (ap readOf (x ∙ sym y) ∙ read-back s)

@@ -9,9 +9,10 @@ use Rattle.number.specs.Answer.{Answer, given, refused}
 use Rattle.cell.specs.Kind.{shapeOf}
 use Rattle.cell.specs.Raw.{fitsRaw, written}
 use Rattle.convert.specs.Asked.{askedRaw}
-use Rattle.convert.specs.Fraction.{Value}
 use Rattle.convert.specs.Method.{identicalOf}
 use Rattle.convert.specs.Shown.{Display, shown}
+use Rattle.convert.specs.Told.{held}
+use Rattle.convert.specs.declared.fraction.Physical.{Physical}
 use Rattle.convert.specs.declared.method.Coefficients.{Coefficients}
 use Rattle.text.specs.Bytes.{samePart}
 use Rattle.tables.specs.Form.{object, group, method, Tables, tablesIn, total, kind, first, methodOf, mask, forbidden, counter, counterPlace, limit, coefficients}
@@ -64,14 +65,14 @@ searched x t l w = checked t l true (given (searchFrom (tablesIn t .counts objec
 
 -- ---- reading: "Reading an element: 20, 22, 14."
 
--- raw, what it means, what is shown of it
+-- raw, what it means as a line holds it, what is shown of it
 pub record Reading : Type 0 where
   pub raw : ℤ
-  pub value : Value
+  pub value : Physical
   pub display : Display
 
 abbrev pub readingOf : List ℕ → ℕ → ℤ → Reading
-readingOf t g raw = record { raw = raw; value = means t g raw; display = shown (means t g raw) }
+readingOf t g raw = record { raw = raw; value = held (means t g raw); display = shown (means t g raw) }
 
 unfoldable pub reading : List ℕ → List ℕ → Lent → ℕ → ℕ → ℕ → Answer Reading
 reading t image l o p i =

@@ -1,7 +1,7 @@
 -- What the code's answers say, case by case.
 use Prim.Native.Nat.{ℕ, suc}
 use Rattle.number.specs.Answer.{Answer, given, refused}
-use Rattle.convert.specs.Told.{meant, toldShown}
+use Rattle.convert.specs.Told.{toldShown}
 use Rattle.list.specs.Calls.{Reading, Kept, After}
 use Rattle.list.specs.declared.search.SearchAnswer.{SearchAnswer}
 use Rattle.list.specs.declared.search.SearchAnswer.the-variants as search
@@ -17,7 +17,7 @@ toldSearch search.Nothing = given 0
 toldSearch (search.Refused n) = refused n
 
 abbrev pub toldRead : ReadAnswer → Answer Reading
-toldRead (read.Element raw p s) = given (record { raw = raw; value = meant p; display = toldShown s })
+toldRead (read.Element raw p s) = given (record { raw = raw; value = p; display = toldShown s })
 toldRead (read.Refused n) = refused n
 
 abbrev pub toldCall : CallAnswer → Answer (Unit {0})

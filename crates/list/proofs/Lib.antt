@@ -9,3 +9,4 @@ pub mod WantedLaws
 pub mod CallLaws
 pub mod Writes
 pub mod Demand
+pub mod Searched

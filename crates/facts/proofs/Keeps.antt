@@ -17,7 +17,7 @@ use Rattle.facts.proofs.Texts.{isText, text-inside, method-name, table-
 use Rattle.facts.proofs.Firsts.{first-read}
 
 -- the records of a section with names have them in slots 0 and 1
-named-text : (j : ℕ) → isNamed j ≡ true → isText j 0 ≡ true
+pub named-text : (j : ℕ) → isNamed j ≡ true → isText j 0 ≡ true
 named-text j h = by-object (or-case (eqb j method || eqb j table || eqb j layout) (eqb j object) h) where
   by-method : (eqb j method ≡ true) ⊎ (eqb j table ≡ true) → isText j 0 ≡ true
   by-method (inl e) = rw (eqb-true j method e) method-name

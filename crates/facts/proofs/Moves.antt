@@ -3,7 +3,7 @@ use Prim.Native.Nat.{ℕ, _-_, _≤_, _<_, min}
 use mathlib.Core.Path.{_≡_, refl, sym}
 use mathlib.Core.List.{List}
 use mathlib.Core.Bool.{Bool, true, false, cond, not, _&&_, _||_, false≢true}
-use mathlib.Core.Logic.{_⊎_, inl, inr}
+use mathlib.Core.Logic.{_⊎_, inl, inr, ⊎-elim}
 use native.Mathlib.Omega.{arith}
 use borrow.Author.Tests.{eqb-true, eq-eqb}
 use lib.Dec.{ltb, leb, eqb}
@@ -36,11 +36,21 @@ use Rattle.grammar.specs.Read.{onPiece, onToken, move}
 use Rattle.grammar.specs.declared.state.State.{State}
 use Rattle.grammar.specs.declared.state.Act.{Act}
 
--- what is asked of a move that goes on, and of the text's end
+-- what is asked of a move that goes on, of a refusal, and of the text's end
+abbrev pub Leads : Type 0 → (ℕ → State → Act → Type 0) → (ℕ → ℕ → Type 0) → Move → Type 0
+Leads E R F (went e s a) = R e s a
+Leads E R F over = E
+Leads E R F (refused n p) = F n p
+
+-- the same with nothing asked of a refusal
 abbrev pub Goes : Type 0 → (ℕ → State → Act → Type 0) → Move → Type 0
-Goes E R (went e s a) = R e s a
-Goes E R over = E
-Goes E R (refused n p) = Unit {0}
+Goes E R = Leads E R (λ n p. Unit {0})
+
+leads-to : (E : Type 0) {R S : ℕ → State → Act → Type 0} {F H : ℕ → ℕ → Type 0} → ((e : ℕ) (t : State) (a : Act) → R e t a → S e t a) → ((n p : ℕ) → F n p → H n p)
+    → (m : Move) → Leads E R F m → Leads E S H m
+leads-to E f g (went e t a) q = f e t a q
+leads-to E f g over q = q
+leads-to E f g (refused n p) q = g n p q
 
 -- a parameter comes only where a keyword could
 abbrev pub Calm : State → Type 0
@@ -71,6 +81,17 @@ pub record Cases (n : ℕ) (v : View) (s : State) (P : State → Act → Type 0)
   pub keeps : (t : State) → ((kindOf s ≡ 11 → ⊥) → t .param ≡ nextOf s) → (a b c : ℕ) → Fits n v s a b c → P t (keeping s (wideOf (kindOf s)) a b c)
   pub pairing : kindOf s ≡ 12 → (t : State) → t .param ≡ nextOf s → (a b : ℕ) → P t (newRecord entry 2 a b 0 0)
   pub telling : kindOf s ≡ 13 → (t : State) (a e : ℕ) → a < e → e ≤ n → P t (writes entry 2 2 a e 0)
+
+-- where nothing is asked
+pub no-cases : (n : ℕ) (v : View) (s : State) → Cases n v s (λ t a. Unit {0})
+no-cases n v s = record {
+  passing = λ z t q. tt;
+  standing = λ z t i. tt;
+  naming = λ k t a e l m. tt;
+  keeps = λ t q a b c f. tt;
+  pairing = λ k t q a b. tt;
+  telling = λ k t a e l m. tt;
+}
 
 or-false : (a b : Bool) → (a || b) ≡ false → (a ≡ false) × (b ≡ false)
 or-false true b e = absurd (false≢true (sym e))
@@ -116,97 +137,105 @@ run-form x a e d = by-run (leb a e && leb e (length x)) where
   by-run true q = decimal-form (take (e - a) (drop a x)) d (sym q)
   by-run false q = let z : _≡_ {A = ℕ} 0 1 = cc in absurd (omega arith)
 
-module _ (x : List ℕ) (v : View) (s : State) (P : State → Act → Type 0) (c : Cases (length x) v s P) where
-  abbrev R : ℕ → State → Act → Type 0
-  R e t a = (e ≤ length x) × Calm t × P t a
-
-  abbrev G : Move → Type 0
-  G = Goes (s .param ≡ 0) R
-
-  wrong-goes : (n k a e : ℕ) → G (wrong n x k a e)
-  unfolding wrong
-  wrong-goes n k a e = by-test G (eqb k aNumber && not (hasForm x a e)) (λ t. tt) (λ t. tt)
-
+-- z is any place: a move that ends there or before it is one of the cases of a text of z bytes
+module _ (x : List ℕ) (v : View) (s : State) (P : State → Act → Type 0) (z : ℕ) (c : Cases z v s P) where
   module _ (a e : ℕ) (h : a < e) (l : e ≤ length x) where
+    -- the piece from a up to e is passed, or refused at its first byte; a block that is skipped is passed further, or refused past the piece
+    abbrev R : ℕ → State → Act → Type 0
+    R i t w = (e ≤ i) × (i ≤ length x) × Calm t × (i ≤ z → P t w)
+
+    abbrev F : ℕ → ℕ → Type 0
+    F m p = (p ≡ a) ⊎ (e ≤ p)
+
+    abbrev G : Move → Type 0
+    G = Leads (s .param ≡ 0) R F
+
+    here : (m : ℕ) → F m a
+    here m = inl refl
+
+    wrong-goes : (m k : ℕ) → G (wrong m x k a e)
+    unfolding wrong
+    wrong-goes m k = by-test G (eqb k aNumber && not (hasForm x a e)) (λ t. here 2) (λ t. here m)
+
     -- ---- keywords
-    module _ (z : s .param ≡ 0) where
+    module _ (o : s .param ≡ 0) where
       rest : (m b : ℕ) → R e (state m b 0 0) idle
-      rest m b = (l, (λ q. refl), c .passing z (state m b 0 0) refl)
+      rest m b = (omega arith, l, (λ q. refl), λ r. c .passing o (state m b 0 0) refl)
 
       stands-goes : (i inner : ℕ) → G (stands v i inner a e)
       unfolding stands
       stands-goes i inner =
-          by-test G (not (mayStand v i)) (λ t. tt) λ t.
-          by-test G (isOften v i) (λ u. tt) λ u. (l, (λ q. absurd (q refl)), c .standing z (state items inner (rowCell i 9) 0) i)
+          by-test G (not (mayStand v i)) (λ t. inl refl) λ t.
+          by-test G (isOften v i) (λ u. inl refl) λ u. (omega arith, l, (λ q. absurd (q refl)), λ r. c .standing o (state items inner (rowCell i 9) 0) i)
 
       plain-goes : (i : ℕ) → G (plainRow v s i a e)
       unfolding plainRow
       plain-goes i =
-          by-test G (not (isRow i)) (λ t. tt) λ t.
-          by-test G (eqb (rowCell i 2) outside) (λ u. tt) λ u. stands-goes i (s .block)
+          by-test G (not (isRow i)) (λ t. inl refl) λ t.
+          by-test G (eqb (rowCell i 2) outside) (λ u. inl refl) λ u. stands-goes i (s .block)
 
       bare-goes : (w : word.Kind) → G (bareWord v s a e w)
       bare-goes (word.takenPlain k) = plain-goes (rowOf (s .block) k)
       bare-goes (word.skippedPlain k) = plain-goes (rowOf (homeOf (s .block)) k)
-      bare-goes (word.takenBlock k) = tt
-      bare-goes (word.takenChoice k) = tt
-      bare-goes (word.skippedBlock k) = tt
-      bare-goes word.listedOnly = tt
-      bare-goes word.unlisted = tt
+      bare-goes (word.takenBlock k) = inl refl
+      bare-goes (word.takenChoice k) = inl refl
+      bare-goes (word.skippedBlock k) = inl refl
+      bare-goes word.listedOnly = inl refl
+      bare-goes word.unlisted = inl refl
 
       of-skip : (r : text.Answer ℕ) → Reaches (length x) e r → G (ofSkip s r)
-      of-skip (given k) q = (q .1, (λ t. refl), c .passing z (state items (s .block) 0 0) refl)
-      of-skip (text.refused n p) q = tt
+      of-skip (given k) q = (q .0, q .1, (λ t. refl), λ r. c .passing o (state items (s .block) 0 0) refl)
+      of-skip (text.refused n p) q = inr (q .0)
 
       skips-goes : G (skips x s a e)
       unfolding skips
-      skips-goes = by-test G (eqb (s .block) FILE) (λ t. tt) λ t. of-skip (skipBlock (levelsIn (s .block)) x a e) (skip-block-within (levelsIn (s .block)) x a e l)
+      skips-goes = by-test G (eqb (s .block) FILE) (λ t. inl refl) λ t. of-skip (skipBlock (levelsIn (s .block)) x a e) (skip-block-within (levelsIn (s .block)) x a e l)
 
       opens-goes : (k : ℕ) → G (opens v s k a e)
       unfolding opens
-      opens-goes k = by-test G (not (isRow (rowOf (s .block) k))) (λ t. tt) λ t. stands-goes (rowOf (s .block) k) k
+      opens-goes k = by-test G (not (isRow (rowOf (s .block) k))) (λ t. inl refl) λ t. stands-goes (rowOf (s .block) k) k
 
       begun-goes : (w : word.Kind) → G (begunWord x v s a e w)
       begun-goes (word.takenBlock k) = opens-goes k
       begun-goes (word.skippedBlock k) = skips-goes
-      begun-goes (word.takenPlain k) = tt
-      begun-goes (word.takenChoice k) = tt
-      begun-goes (word.skippedPlain k) = tt
-      begun-goes word.listedOnly = tt
-      begun-goes word.unlisted = tt
+      begun-goes (word.takenPlain k) = inl refl
+      begun-goes (word.takenChoice k) = inl refl
+      begun-goes (word.skippedPlain k) = inl refl
+      begun-goes word.listedOnly = inl refl
+      begun-goes word.unlisted = inl refl
 
       ends-goes : G (ends v s a e)
       unfolding ends
       ends-goes =
-          by-test G (eqb (s .block) FILE) (λ t. tt) λ t.
-          by-test G (allMet (length needCells) v (s .block) 0) (λ u. rest ended (s .block)) (λ u. tt)
+          by-test G (eqb (s .block) FILE) (λ t. inl refl) λ t.
+          by-test G (allMet (length needCells) v (s .block) 0) (λ u. rest ended (s .block)) (λ u. inl refl)
 
       closes-goes : G (closes s a e)
       closes-goes = by-test G (eqb (s .block) PROJECT) (λ t. rest finished FILE) (λ t. rest items (holderOf (s .block)))
 
       ended-goes : (w : word.Kind) → G (endedWord s a e w)
-      ended-goes (word.takenBlock k) = by-test G (eqb k (s .block)) (λ t. closes-goes) (λ t. tt)
-      ended-goes (word.takenPlain k) = tt
-      ended-goes (word.takenChoice k) = tt
-      ended-goes (word.skippedBlock k) = tt
-      ended-goes (word.skippedPlain k) = tt
-      ended-goes word.listedOnly = tt
-      ended-goes word.unlisted = tt
+      ended-goes (word.takenBlock k) = by-test G (eqb k (s .block)) (λ t. closes-goes) (λ t. inl refl)
+      ended-goes (word.takenPlain k) = inl refl
+      ended-goes (word.takenChoice k) = inl refl
+      ended-goes (word.skippedBlock k) = inl refl
+      ended-goes (word.skippedPlain k) = inl refl
+      ended-goes word.listedOnly = inl refl
+      ended-goes word.unlisted = inl refl
 
       item-goes : (k : ℕ) → G (item x v s k a e)
       unfolding item
       item-goes k =
           by-test G (eqb k aName) (λ t. bare-goes (classAt x a e)) λ t.
           by-test G (eqb k aBegin) (λ u. rest begun (s .block)) λ u.
-          by-test G (eqb k anEnd) (λ w. ends-goes) (λ w. wrong-goes 5 k a e)
+          by-test G (eqb k anEnd) (λ w. ends-goes) (λ w. wrong-goes 5 k)
 
       begin-goes : (k : ℕ) → G (afterBegin x v s k a e)
       unfolding afterBegin
-      begin-goes k = by-test G (eqb k aName) (λ t. begun-goes (classAt x a e)) (λ t. wrong-goes 5 k a e)
+      begin-goes k = by-test G (eqb k aName) (λ t. begun-goes (classAt x a e)) (λ t. wrong-goes 5 k)
 
       end-goes : (k : ℕ) → G (afterEnd x s k a e)
       unfolding afterEnd
-      end-goes k = by-test G (eqb k aName) (λ t. ended-goes (classAt x a e)) (λ t. wrong-goes 3 k a e)
+      end-goes k = by-test G (eqb k aName) (λ t. ended-goes (classAt x a e)) (λ t. wrong-goes 3 k)
 
     -- ---- parameters
 
@@ -218,8 +247,8 @@ module _ (x : List ℕ) (v : View) (s : State) (P : State → Act → Type 0) (c
         → (n : ℕ) → R e t (keeping s 1 n 0 0)
     one t m q k n =
         let w : wideOf (kindOf s) ≡ 1 = wide-one (kindOf s) k in
-        let f : Fits (length x) v s n 0 0 = record { some = λ u. omega arith; words = λ u. absurd (omega arith); upper = λ u. absurd (not-ten k u) } in
-        (l, m, rw w at (c .keeps t q n 0 0 f)) where
+        let f : Fits z v s n 0 0 = record { some = λ u. omega arith; words = λ u. absurd (omega arith); upper = λ u. absurd (not-ten k u) } in
+        (omega arith, l, m, λ r. rw w at (c .keeps t q n 0 0 f)) where
           not-ten : (kindOf s ≡ 3) ⊎ (kindOf s ≡ 5) ⊎ (kindOf s ≡ 7) ⊎ (kindOf s ≡ 8) ⊎ (kindOf s ≡ 11) → kindOf s ≡ 10 → ⊥
           not-ten (inl p) u = omega arith
           not-ten (inr (inl p)) u = omega arith
@@ -230,8 +259,8 @@ module _ (x : List ℕ) (v : View) (s : State) (P : State → Act → Type 0) (c
     two : (kindOf s ≡ 1) ⊎ (kindOf s ≡ 2) → R e (after s) (keeping s 2 a e 0)
     two k =
         let w : wideOf (kindOf s) ≡ 2 = wide-two (kindOf s) k in
-        let f : Fits (length x) v s a e 0 = record { some = λ u. omega arith; words = λ u. (omega arith, l); upper = λ u. absurd (not-ten k u) } in
-        (l, busy (s .block) (nextOf s) (s .left), rw w at (c .keeps (after s) (λ q. refl) a e 0 f)) where
+        let f : e ≤ z → Fits z v s a e 0 = (λ b. record { some = λ u. omega arith; words = λ u. (omega arith, b); upper = λ u. absurd (not-ten k u) }) in
+        (omega arith, l, busy (s .block) (nextOf s) (s .left), λ b. rw w at (c .keeps (after s) (λ q. refl) a e 0 (f b))) where
           not-ten : (kindOf s ≡ 1) ⊎ (kindOf s ≡ 2) → kindOf s ≡ 10 → ⊥
           not-ten (inl p) u = omega arith
           not-ten (inr p) u = omega arith
@@ -239,9 +268,9 @@ module _ (x : List ℕ) (v : View) (s : State) (P : State → Act → Type 0) (c
     whole-goes : (kindOf s ≡ 3) ⊎ (kindOf s ≡ 7) ⊎ (kindOf s ≡ 8) → (n : ℕ) → G (takenWhole s a e n)
     unfolding takenWhole
     whole-goes k n =
-        by-test G (ltb n (lowOf s)) (λ t. tt) λ t.
-        by-test G (eqb (kindOf s) 7 && ltb 256 n) (λ u. tt) λ u.
-        by-test G (eqb (kindOf s) 8 && not (eqb n 1 || eqb n 2 || eqb n 4 || eqb n 8)) (λ w. tt) λ w.
+        by-test G (ltb n (lowOf s)) (λ t. inl refl) λ t.
+        by-test G (eqb (kindOf s) 7 && ltb 256 n) (λ u. inl refl) λ u.
+        by-test G (eqb (kindOf s) 8 && not (eqb n 1 || eqb n 2 || eqb n 4 || eqb n 8)) (λ w. inl refl) λ w.
         one (after s) (busy (s .block) (nextOf s) (s .left)) (λ q. refl) (among k) n where
           among : (kindOf s ≡ 3) ⊎ (kindOf s ≡ 7) ⊎ (kindOf s ≡ 8) → (kindOf s ≡ 3) ⊎ (kindOf s ≡ 5) ⊎ (kindOf s ≡ 7) ⊎ (kindOf s ≡ 8) ⊎ (kindOf s ≡ 11)
           among (inl p) = inl p
@@ -258,10 +287,10 @@ module _ (x : List ℕ) (v : View) (s : State) (P : State → Act → Type 0) (c
     entry-goes : kindOf s ≡ 12 → (d : Scaled) → G (takenEntry v s a e d)
     unfolding takenEntry
     entry-goes k d =
-        by-test G (not (eqb (d .tens) 0)) (λ t. tt) λ t.
-        by-test G (twice v (signOf d) (d .whole)) (λ u. tt) λ u.
-        by-test G (leb (mostOf sections entry) (v .counts entry)) (λ w. tt) λ w.
-        (l, busy (s .block) (nextOf s) (s .left), c .pairing k (after s) refl (signOf d) (d .whole))
+        by-test G (not (eqb (d .tens) 0)) (λ t. inl refl) λ t.
+        by-test G (twice v (signOf d) (d .whole)) (λ u. inl refl) λ u.
+        by-test G (leb (mostOf sections entry) (v .counts entry)) (λ w. inl refl) λ w.
+        (omega arith, l, busy (s .block) (nextOf s) (s .left), λ r. c .pairing k (after s) refl (signOf d) (d .whole))
 
     -- three slots
     decimal-goes : wantsText s ≡ false → wantsName s ≡ false → eqb (kindOf s) 11 ≡ false → (eqb (kindOf s) 3 || eqb (kindOf s) 7 || eqb (kindOf s) 8) ≡ false
@@ -269,14 +298,14 @@ module _ (x : List ℕ) (v : View) (s : State) (P : State → Act → Type 0) (c
     unfolding takenDecimal
     decimal-goes k₁ k₂ k₃ k₄ d f =
         by-test G (eqb (kindOf s) 12) (λ t. entry-goes (eqb-true (kindOf s) 12 t) d) λ t.
-        by-test G (eqb (kindOf s) 9 && not (eqb (d .whole) 0)) (λ u. tt) λ u.
-        by-test G (eqb (kindOf s) 10 && not (atMost (decimalIn v (secOf s) (slotOf s - 3)) d)) (λ w. tt) λ w.
-        (l, busy (s .block) (nextOf s) (s .left), rw (wide-three (kindOf s) k₁ k₂ k₃ k₄ t) at (c .keeps (after s) (λ q. refl) (signOf d) (d .whole) (d .tens) (fits t w))) where
+        by-test G (eqb (kindOf s) 9 && not (eqb (d .whole) 0)) (λ u. inl refl) λ u.
+        by-test G (eqb (kindOf s) 10 && not (atMost (decimalIn v (secOf s) (slotOf s - 3)) d)) (λ w. inl refl) λ w.
+        (omega arith, l, busy (s .block) (nextOf s) (s .left), λ r. rw (wide-three (kindOf s) k₁ k₂ k₃ k₄ t) at (c .keeps (after s) (λ q. refl) (signOf d) (d .whole) (d .tens) (fits t w))) where
           under : (b : Bool) → (true && not b) ≡ false → b ≡ true
           under true q = refl
           under false q = sym q
 
-          fits : eqb (kindOf s) 12 ≡ false → (eqb (kindOf s) 10 && not (atMost (decimalIn v (secOf s) (slotOf s - 3)) d)) ≡ false → Fits (length x) v s (signOf d) (d .whole) (d .tens)
+          fits : eqb (kindOf s) 12 ≡ false → (eqb (kindOf s) 10 && not (atMost (decimalIn v (secOf s) (slotOf s - 3)) d)) ≡ false → Fits z v s (signOf d) (d .whole) (d .tens)
           fits t w = record {
             some = λ u. omega (arith, wide-three (kindOf s) k₁ k₂ k₃ k₄ t);
             words = λ u. absurd (omega (arith, wide-three (kindOf s) k₁ k₂ k₃ k₄ t));
@@ -285,7 +314,7 @@ module _ (x : List ℕ) (v : View) (s : State) (P : State → Act → Type 0) (c
 
     of-number : {A : Type 0} (r : number.Answer A) (g : A → Move) → ((n : A) → r ≡ number.given n → G (g n)) → G (ofNumber a r g)
     of-number (number.given n) g q = q n refl
-    of-number (number.refused k) g q = tt
+    of-number (number.refused k) g q = here k
 
     number-goes : wantsText s ≡ false → wantsName s ≡ false → G (takenNumber x v s a e)
     unfolding takenNumber
@@ -309,19 +338,19 @@ module _ (x : List ℕ) (v : View) (s : State) (P : State → Act → Type 0) (c
     new-goes : kindOf s ≡ 6 → G (takenNew x v s a e)
     unfolding takenNew
     new-goes k =
-        by-test G (not (eqb (find x v (secOf s) a e) 0)) (λ t. tt) λ t.
-        by-test G (leb (mostOf sections (secOf s)) (v .counts (secOf s))) (λ u. tt) λ u.
-        (l, busy (s .block) (nextOf s) (s .left), c .naming k (after s) a e (omega arith) l)
+        by-test G (not (eqb (find x v (secOf s) a e) 0)) (λ t. inl refl) λ t.
+        by-test G (leb (mostOf sections (secOf s)) (v .counts (secOf s))) (λ u. inl refl) λ u.
+        (omega arith, l, busy (s .block) (nextOf s) (s .left), λ b. c .naming k (after s) a e (omega arith) b)
 
     choice-goes : kindOf s ≡ 5 → (w : word.Kind) → G (ofChoice s a e w)
     choice-goes k (word.takenChoice n) =
-        by-test G (leb (lowOf s) n && leb n (highOf s)) (λ t. one (after s) (busy (s .block) (nextOf s) (s .left)) (λ q. refl) (inr (inl k)) n) (λ t. tt)
-    choice-goes k (word.takenBlock n) = tt
-    choice-goes k (word.takenPlain n) = tt
-    choice-goes k (word.skippedBlock n) = tt
-    choice-goes k (word.skippedPlain n) = tt
-    choice-goes k word.listedOnly = tt
-    choice-goes k word.unlisted = tt
+        by-test G (leb (lowOf s) n && leb n (highOf s)) (λ t. one (after s) (busy (s .block) (nextOf s) (s .left)) (λ q. refl) (inr (inl k)) n) (λ t. inl refl)
+    choice-goes k (word.takenBlock n) = inl refl
+    choice-goes k (word.takenPlain n) = inl refl
+    choice-goes k (word.skippedBlock n) = inl refl
+    choice-goes k (word.skippedPlain n) = inl refl
+    choice-goes k word.listedOnly = inl refl
+    choice-goes k word.unlisted = inl refl
 
     name-goes : wantsName s ≡ true → G (takenName x v s a e)
     unfolding takenName
@@ -336,7 +365,7 @@ module _ (x : List ℕ) (v : View) (s : State) (P : State → Act → Type 0) (c
     text-goes : wantsText s ≡ true → G (takenText s a e)
     unfolding takenText
     text-goes k =
-        by-test G (eqb (kindOf s) 13) (λ t. (l, calm (ltb 1 (s .left)), c .telling (eqb-true (kindOf s) 13 t) (afterText s) a e (omega arith) l)) λ t.
+        by-test G (eqb (kindOf s) 13) (λ t. (omega arith, l, calm (ltb 1 (s .left)), λ b. c .telling (eqb-true (kindOf s) 13 t) (afterText s) a e (omega arith) b)) λ t.
         two (inr (eqb-true (kindOf s) 2 (first (eqb (kindOf s) 2) (eqb (kindOf s) 13) k t))) where
           first : (p q : Bool) → (p || q) ≡ true → q ≡ false → p ≡ true
           first true q h f = refl
@@ -349,26 +378,38 @@ module _ (x : List ℕ) (v : View) (s : State) (P : State → Act → Type 0) (c
     taken-goes : (k : ℕ) → G (taken x v s k a e)
     unfolding taken
     taken-goes k =
-        by-test G (wantsText s) (λ t. by-test G (eqb k aString) (λ u. text-goes t) (λ u. wrong-goes 5 k a e)) λ t.
-        by-test G (wantsName s) (λ w. by-test G (eqb k aName) (λ u. name-goes w) (λ u. wrong-goes 5 k a e)) λ w.
-        by-test G (eqb k aNumber) (λ u. number-goes t w) (λ u. tt)
+        by-test G (wantsText s) (λ t. by-test G (eqb k aString) (λ u. text-goes t) (λ u. wrong-goes 5 k)) λ t.
+        by-test G (wantsName s) (λ w. by-test G (eqb k aName) (λ u. name-goes w) (λ u. wrong-goes 5 k)) λ w.
+        by-test G (eqb k aNumber) (λ u. number-goes t w) (λ u. inl refl)
 
     -- ---- any piece
 
-    piece-goes : Calm s → (k : ℕ) → G (onPiece x v s k a e)
+    pub piece-leads : Calm s → (k : ℕ) → Leads (s .param ≡ 0) (λ i t w. (e ≤ i) × (i ≤ length x) × Calm t × (i ≤ z → P t w)) (λ m p. (p ≡ a) ⊎ (e ≤ p)) (onPiece x v s k a e)
     unfolding onPiece
-    piece-goes m k =
-        by-test G (eqb (s .mode) finished) (λ t. wrong-goes 3 k a e) λ t.
+    piece-leads m k =
+        by-test G (eqb (s .mode) finished) (λ t. wrong-goes 3 k) λ t.
         by-test G (eqb (s .mode) begun) (λ u. begin-goes (m (λ q. let r = eqb-true (s .mode) begun u in omega arith)) k) λ u.
         by-test G (eqb (s .mode) ended) (λ w. end-goes (m (λ q. let r = eqb-true (s .mode) ended w in omega arith)) k) λ w.
         by-test G (eqb (s .param) 0) (λ p. item-goes (eqb-true (s .param) 0 p) k) (λ p. taken-goes k)
 
-  token-goes : Calm s → (k : ℕ) (r : text.Answer Piece) → Pieces (length x) k r → G (onToken x v s r)
-  token-goes m k (given (piece kind a e)) q = piece-goes a e (q .1) (q .2) m (kindNumber kind)
-  token-goes m k (given (finish p)) q = by-test G (eqb (s .mode) finished) (λ t. m (λ u. let w = eqb-true (s .mode) finished t in omega arith)) (λ t. tt)
-  token-goes m k (text.refused n p) q = tt
+  module _ (k : ℕ) (h : k ≤ length x) where
+    abbrev T : Move → Type 0
+    T = Leads (s .param ≡ 0) (λ e t a. (k < e) × (e ≤ length x) × Calm t × (e ≤ z → P t a)) (λ n p. k ≤ p)
 
-  -- every move is one of the cases, its next place lies inside the text, and at the text's end no parameter is to come
+    of-piece : (a e : ℕ) → k ≤ a → a < e → (m : Move) → Leads (s .param ≡ 0) (λ i t w. (e ≤ i) × (i ≤ length x) × Calm t × (i ≤ z → P t w)) (λ n p. (p ≡ a) ⊎ (e ≤ p)) m → T m
+    of-piece a e l q = leads-to (s .param ≡ 0) (λ i t w r. (omega (arith, r .0), r .1, r .2, r .3)) (λ n p r. ⊎-elim (λ u. omega arith) (λ u. omega arith) r)
+
+    token-leads : Calm s → (r : text.Answer Piece) → Pieces (length x) k r → T (onToken x v s r)
+    token-leads m (given (piece kind a e)) q = of-piece a e (q .0) (q .1) (onPiece x v s (kindNumber kind) a e) (piece-leads a e (q .1) (q .2) m (kindNumber kind))
+    token-leads m (given (finish p)) q = by-test T (eqb (s .mode) finished) (λ t. m (λ u. let w = eqb-true (s .mode) finished t in omega arith)) (λ t. omega arith)
+    token-leads m (text.refused n p) q = q .0
+
+    -- every move goes ahead inside the text or is refused at a place ahead, is one of the cases, and at the text's end no parameter is to come
+    pub move-leads : Calm s → Leads (s .param ≡ 0) (λ e t a. (k < e) × (e ≤ length x) × Calm t × (e ≤ z → P t a)) (λ n p. k ≤ p) (move x v s k)
+    unfolding move
+    move-leads m = token-leads m (nextToken x k) (token-within x k h)
+
+-- the cases of the whole text
+module _ (x : List ℕ) (v : View) (s : State) (P : State → Act → Type 0) (c : Cases (length x) v s P) where
   pub move-goes : Calm s → (k : ℕ) → k ≤ length x → Goes (s .param ≡ 0) (λ e t a. (e ≤ length x) × Calm t × P t a) (move x v s k)
-  unfolding move
-  move-goes m k h = token-goes m k (nextToken x k) (token-within x k h)
+  move-goes m k h = leads-to (s .param ≡ 0) (λ e t a q. (q .1, q .2, q .3 (q .1))) (λ n p q. tt) (move x v s k) (move-leads x v s P (length x) c k h m)

@@ -14,7 +14,7 @@ use Rattle.grammar.specs.Move.{view, state, items, applied, Move, went, over, r
 use Rattle.grammar.specs.Read.{move, following, readFrom, start, read}
 use Rattle.grammar.proofs.Cells.{good-applied}
 use Rattle.grammar.specs.declared.state.State.{State}
-use Rattle.facts.proofs.Moves.{Goes, Calm, Cases, move-goes}
+use Rattle.facts.proofs.Moves.{Goes, Calm, Cases, no-cases, move-goes}
 
 -- what is asked of the records that were read
 abbrev Given : (List (List (List ℕ)) → Type 0) → Answer (List (List (List ℕ))) → Type 0
@@ -44,13 +44,4 @@ module _ (x : List ℕ) (I : State → List (List (List ℕ)) → Type 0) (Q : L
 
 -- the records are as wide as their sections, and no more than their most
 pub read-good : (x : List ℕ) (d : List (List (List ℕ))) → read x ≡ given d → Good sections d
-read-good x = read-has x (λ s d. Unit {0}) (Good sections) (λ s d g i. all s d) (λ s d g z i. g) tt where
-  all : (s : State) (d : List (List (List ℕ))) → Cases (length x) (view d) s (λ t a. Unit {0})
-  all s d = record {
-    passing = λ z t q. tt;
-    standing = λ z t i. tt;
-    naming = λ k t a e l m. tt;
-    keeps = λ t q a b c f. tt;
-    pairing = λ k t q a b. tt;
-    telling = λ k t a e l m. tt;
-  }
+read-good x = read-has x (λ s d. Unit {0}) (Good sections) (λ s d g i. no-cases (length x) (view d) s) (λ s d g z i. g) tt

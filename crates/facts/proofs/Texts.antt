@@ -87,7 +87,7 @@ says j k h =
 -- ---- one step
 
 -- inside the description, and with a byte where there is an end
-abbrev Told : ℕ → ℕ → ℕ → Type 0
+abbrev pub Told : ℕ → ℕ → ℕ → Type 0
 Told n a e = Inside n a e × ((e ≡ 0 → ⊥) → a < e)
 
 some-told : (n a e : ℕ) → a < e → e ≤ n → Told n a e
@@ -206,6 +206,11 @@ module _ (j k : ℕ) (f : Says j k) where
       pairing = λ w t q a b. cleared (newRecord entry 2 a b 0 0) (clear-pair a b);
       telling = λ w t a e l m. pair-text a e l m;
     }
+
+-- a move whose end is at most n keeps the texts that end there or before
+pub text-cases : (j k : ℕ) → isText j k ≡ true → (n : ℕ) (s : State) (d : List (List (List ℕ))) → Good sections d → ((i : ℕ) → Told n (slot d j i k) (slot d j i (k + 1)))
+    → Cases n (view d) s (λ t a. (i : ℕ) → Told n (slot (applied a d) j i k) (slot (applied a d) j i (k + 1)))
+text-cases j k h n s d g w = steps j k (says j k h) n s d g w
 
 -- in every description that was read
 text-told : (j k : ℕ) → isText j k ≡ true → (x : List ℕ) (d : List (List (List ℕ))) → read x ≡ given d → (i : ℕ) → Told (length x) (slot d j i k) (slot d j i (k + 1))

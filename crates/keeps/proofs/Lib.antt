@@ -1,9 +1,10 @@
--- What is true of the tables of every load that was accepted (Rule, Elements), and which loads are (Exactly).
+-- What is true of the tables of every load that was accepted (Rule, Elements), which loads are (Exactly), and what a refusal of the text rests on (Refused).
 pub mod Bits
 pub mod Parts
 pub mod Stood
 pub mod Rows
 pub mod Groups
 pub mod Exactly
+pub mod Refused
 pub mod Rule
 pub mod Elements

@@ -1,5 +1,5 @@
 // The value list: reading, the search by name, making a list, and writes.
-mod bytes;
+pub mod bytes;
 pub mod check;
 mod element;
 pub mod make;

@@ -7,5 +7,4 @@ pub mod ItemLaws
 pub mod Pieces
 pub mod SkipWithin
 pub mod SkipLaws
-pub mod Local
 pub mod Examples

@@ -49,7 +49,7 @@ starts-in : (b : ℕ) → startsName b ≡ true → inName b ≡ true
 unfolding inName
 starts-in b h = rw h
 
-name-past : (s : List ℕ) (k : ℕ) → k < length s → startsName (byte s k) ≡ true → k < nameEnd s k
+pub name-past : (s : List ℕ) (k : ℕ) → k < length s → startsName (byte s k) ≡ true → k < nameEnd s k
 unfolding nameEnd
 name-past s k h f = from-start (length s) (λ e. k < e) (nameStep s) (λ j. j) k
     (λ j p lt. by-test (Goes (length s) (λ i e. k < e) j) (inName (byte s j)) (λ t. (omega arith, omega arith))

@@ -1,0 +1,138 @@
+// What a person types: a part's letter, a raw number.
+ghost use mathlib.Core.Path.{_≡_};
+ghost use Prim.Native.Nat.{_≤_};
+ghost use lib.ListN.{length, drop};
+ghost use Rattle.number.specs.Decimal.{signs, minus};
+ghost use Rattle.number.specs.Told.{toldWhole};
+ghost use Rattle.number.specs.Whole.{wholeFrom};
+ghost use Rattle.ask.specs.Typed.{partOf, mostOf, signedOf, rawTyped};
+ghost use Rattle.ask.specs.Told.{toldTyped};
+use number::digits::NO_FORM;
+use number::whole::WholeAnswer;
+use number::whole::whole_of;
+
+// The letters of the parts, and what any other word is.
+const LETTER_X: u8 = 120;
+
+const LETTER_Y: u8 = 121;
+
+const LETTER_V: u8 = 118;
+
+const NO_PART: u8 = 3;
+
+// The signs, and the second byte of a hex number, which no raw number is.
+const PLUS: u8 = 43;
+
+const MINUS: u8 = 45;
+
+const HEX_MARK: u8 = 120;
+
+// The greatest size of a number above zero and of one below.
+const MOST_ABOVE: u64 = 9223372036854775807;
+
+const MOST_BELOW: u64 = 9223372036854775808;
+
+const MINUS_ONE: i64 = -1;
+
+// A raw number, or a word that writes none.
+pub enum RawTyped {
+    Number(i64),
+    Nothing,
+}
+
+// The part that a letter names: x is 0, y is 1, v is 2; any other word is 3.
+pub fn part_of(s: &[u8]) -> u8
+    ensures { λ r. ⌜ r ≡ partOf (now (s .entry)) ⌝ }
+{
+    if s.len() != 1 {
+        return NO_PART;
+    }
+    match s[0] {
+        LETTER_X => 0,
+        LETTER_Y => 1,
+        LETTER_V => 2,
+        _ => NO_PART,
+    }
+}
+
+// How many signs stand first: 0 or 1.
+fn sign_len(s: &[u8]) -> usize
+    ensures { λ r. ⌜ (r ≡ signs (now (s .entry))) × (r ≤ length (now (s .entry))) ⌝ }
+{
+    if s.len() == 0 {
+        return 0;
+    }
+    match s[0] {
+        PLUS => 1,
+        MINUS => 1,
+        _ => 0,
+    }
+}
+
+// Whether a minus stands first.
+fn is_minus(s: &[u8]) -> bool
+    ensures { λ r. ⌜ r ≡ minus (now (s .entry)) ⌝ }
+{
+    if s.len() == 0 {
+        return false;
+    }
+    s[0] == MINUS
+}
+
+// The greatest size that an i64 has, with a minus or without.
+fn most_of(negative: bool) -> u64
+    ensures { λ r. ⌜ r ≡ mostOf negative ⌝ }
+{
+    if negative {
+        return MOST_BELOW;
+    }
+    MOST_ABOVE
+}
+
+// The number of a size, with or without a minus.
+fn with_sign(negative: bool, n: u64) -> i64
+    requires { ⌜ n ≤ mostOf negative ⌝ }
+    ensures { λ r. ⌜ r ≡ signedOf negative n ⌝ }
+{
+    if negative {
+        if n == 0 {
+            return 0;
+        }
+        let x = (n - 1) as i64;
+        return MINUS_ONE - x;
+    }
+    n as i64
+}
+
+// The whole number that decimal digits write, at most most.
+fn digits_of(s: &[u8], most: u64) -> WholeAnswer
+    ensures { λ r. ⌜ toldWhole r ≡ wholeFrom 10 most (now (s .entry)) ⌝ }
+{
+    if s.len() < 2 {
+        return whole_of(s, most);
+    }
+    if s[1] == HEX_MARK {
+        return WholeAnswer::Refused { no: NO_FORM };
+    }
+    whole_of(s, most)
+}
+
+// The size that a word writes after its sign, at most what an i64 has.
+fn size_of(s: &[u8], negative: bool) -> WholeAnswer
+    ensures { λ r. ⌜ toldWhole r ≡ wholeFrom 10 (mostOf negative) (drop (signs (now (s .entry))) (now (s .entry))) ⌝ }
+{
+    let at = sign_len(s);
+    digits_of(&s[at..], most_of(negative))
+}
+
+// The raw number that a word writes.
+pub fn raw_typed(s: &[u8]) -> RawTyped
+    ensures { λ r. ⌜ toldTyped r ≡ rawTyped (now (s .entry)) ⌝ }
+{
+    let negative = is_minus(s);
+    let size = size_of(s, negative);
+    let WholeAnswer::Number(n) = size else {
+        return RawTyped::Nothing;
+    };
+    RawTyped::Number(with_sign(negative, n))
+}

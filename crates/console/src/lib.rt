@@ -1,0 +1,6 @@
+// The program's edge: its arguments, its files, and what it says. Nothing of the reader rests on it.
+pub mod arguments;
+pub mod file;
+pub mod message;
+pub mod replace;
+pub mod sizes;

@@ -1,0 +1,24 @@
+use Rattle.obarsivel.proofs.lines.print_lines.Statement.{statement}
+use Rattle.obarsivel.proofs.lines.print_lines.Tie as tie
+use borrow.Author.Needs.{needs}
+use Prim.Native.Nat.{_-_}
+
+abbrev Inv-loop : tie.InvT-loop
+Inv-loop x image base t raw state first second all lo many n g₀ g = Unit
+
+abbrev μ-loop : tie.MeasureT-loop
+μ-loop x image base t raw state first second all lo many n g₀ g = n - g
+
+pub print-lines-spec : {M : Type 1} → statement M
+print-lines-spec =
+    tie.close
+    (tie.spec
+    Inv-loop
+    μ-loop
+    (λ c κs. search needs)
+    (λ c. search needs)
+    (λ c κs. search needs)
+    (λ c. search needs)
+    (λ c. search needs)
+    (λ c. search needs)
+    (λ c. search needs))

@@ -1,0 +1,363 @@
+// The command `apply`: a file of requests, a line each.
+use crate::lines::print_listing;
+use crate::requested::ElementTyped;
+use crate::requested::NO_FIELDS;
+use crate::requested::NO_WAY;
+use crate::requested::SAID;
+use crate::requested::Way;
+use crate::requested::element_named;
+use crate::requested::say_wrong;
+use crate::requested::way_of;
+use crate::requested::write_one;
+use ask::field::field_count;
+use ask::field::field_of;
+use ask::field::line_end;
+use console::arguments::REQUESTS;
+use console::file::FileRead;
+use console::file::read_file;
+use console::message::refused;
+use console::message::refused_size;
+use console::message::say;
+use console::message::say_number;
+use console::replace::is_kept;
+use console::sizes::LINES;
+use console::sizes::TEXT_BYTES;
+use console::sizes::TEXT_ROOM;
+use console::sizes::front;
+use list::make::make_list;
+use list::write::CallAnswer;
+
+// How many fields a request has, and which they are.
+const FIELDS: usize = 5;
+
+const NAME: usize = 0;
+
+const PART: usize = 1;
+
+const INDEX: usize = 2;
+
+const WAY: usize = 3;
+
+const VALUE: usize = 4;
+
+// Room for the answers: a request has ten bytes or more.
+const ANSWERS: usize = 4096;
+
+// An answer's number: 0 for a write that is done.
+const DONE: u8 = 0;
+
+// A request without its value, or what is wrong with it.
+pub enum Request {
+    To {
+        object: u32,
+        part: u8,
+        index: u32,
+        is_raw: bool,
+    },
+    Wrong {
+        why: u8,
+    },
+}
+
+// The part of s from a up to e, as far as there is one.
+fn between(s: &[u8], a: usize, e: usize) -> &[u8] {
+    if e <= s.len() {
+        if a <= e {
+            return &s[a..e];
+        }
+    }
+    &s[..0]
+}
+
+// The request of one line.
+fn request_in(line: &[u8], x: &[u8], image: &[u8], base: u32, t: &[u64]) -> Request {
+    if field_count(line) != FIELDS {
+        return Request::Wrong { why: NO_FIELDS };
+    }
+    match element_named(
+        x,
+        image,
+        base,
+        t,
+        field_of(line, NAME),
+        field_of(line, PART),
+        field_of(line, INDEX),
+    ) {
+        ElementTyped::At {
+            object,
+            part,
+            index,
+        } => match way_of(field_of(line, WAY)) {
+            Way::Raw => Request::To {
+                object,
+                part,
+                index,
+                is_raw: true,
+            },
+            Way::Physical => Request::To {
+                object,
+                part,
+                index,
+                is_raw: false,
+            },
+            Way::Neither => Request::Wrong { why: NO_WAY },
+        },
+        ElementTyped::Wrong { why } => Request::Wrong { why },
+    }
+}
+
+// Whether line n is a request; what is wrong with it is said.
+fn is_request(line: &[u8], n: usize, x: &[u8], image: &[u8], base: u32, t: &[u64]) -> bool {
+    match request_in(line, x, image, base, t) {
+        Request::To {
+            object: _,
+            part: _,
+            index: _,
+            is_raw: _,
+        } => true,
+        Request::Wrong { why } => {
+            if why != SAID {
+                say(b"error: line ");
+                say_number(n as u64);
+                say(b" of the requests: ");
+                say_wrong(
+                    why,
+                    field_of(line, NAME),
+                    field_of(line, INDEX),
+                    field_of(line, WAY),
+                );
+            }
+            false
+        }
+    }
+}
+
+// Whether every line is a request.
+fn are_requests(q: &[u8], x: &[u8], image: &[u8], base: u32, t: &[u64]) -> bool {
+    let mut from: usize = 0;
+    let mut n: usize = 1;
+    while from < q.len() {
+        let end = line_end(q, from);
+        if end < from {
+            return false;
+        }
+        if !is_request(between(q, from, end), n, x, image, base, t) {
+            return false;
+        }
+        if q.len() <= end {
+            return true;
+        }
+        from = end + 1;
+        n = n + 1;
+    }
+    true
+}
+
+// Carries out the request of one line: its answer's number.
+fn answer_to(
+    line: &[u8],
+    x: &[u8],
+    image: &mut [u8],
+    base: u32,
+    t: &[u64],
+    raw: &mut [i64],
+    state: &mut [u8],
+    first: &mut [i64],
+    second: &mut [i64],
+) -> u8 {
+    match request_in(line, x, image, base, t) {
+        Request::To {
+            object,
+            part,
+            index,
+            is_raw,
+        } => {
+            match write_one(
+                x,
+                image,
+                base,
+                t,
+                raw,
+                state,
+                first,
+                second,
+                object,
+                part,
+                index,
+                is_raw,
+                field_of(line, VALUE),
+            ) {
+                CallAnswer::Done => DONE,
+                CallAnswer::Refused { no } => no,
+            }
+        }
+        Request::Wrong { why: _ } => DONE,
+    }
+}
+
+// Notes an answer, where there is room.
+fn note(answers: &mut [u8], n: usize, no: u8) {
+    if n < answers.len() {
+        answers[n] = no;
+    }
+}
+
+// Carries out the requests in turn, notes their answers, and answers how many there were.
+fn apply_all(
+    q: &[u8],
+    x: &[u8],
+    image: &mut [u8],
+    base: u32,
+    t: &[u64],
+    raw: &mut [i64],
+    state: &mut [u8],
+    first: &mut [i64],
+    second: &mut [i64],
+    answers: &mut [u8],
+) -> usize {
+    let mut from: usize = 0;
+    let mut n: usize = 0;
+    while from < q.len() {
+        let end = line_end(q, from);
+        if end < from {
+            return n;
+        }
+        let no = answer_to(
+            between(q, from, end),
+            x,
+            image,
+            base,
+            t,
+            raw,
+            state,
+            first,
+            second,
+        );
+        note(answers, n, no);
+        n = n + 1;
+        if q.len() <= end {
+            return n;
+        }
+        from = end + 1;
+    }
+    n
+}
+
+// Whether one of the answers is that a write is done.
+fn has_done(answers: &[u8]) -> bool {
+    let mut i: usize = 0;
+    while i < answers.len() {
+        if answers[i] == DONE {
+            return true;
+        }
+        i += 1;
+    }
+    false
+}
+
+// Writes one answer.
+fn print_answer(no: u8) {
+    if no == DONE {
+        say(b"ok\n");
+        return;
+    }
+    say(b"refused ");
+    say_number(no as u64);
+    say(b"\n");
+}
+
+// Writes the answers, a line each.
+fn print_answers(answers: &[u8]) {
+    let mut i: usize = 0;
+    while i < answers.len() {
+        print_answer(answers[i]);
+        i += 1;
+    }
+}
+
+// Whether the image's file holds what the answers say: replaced where a write is done, left where none is.
+fn is_settled(answers: &[u8], image: &[u8]) -> bool {
+    if has_done(answers) {
+        return is_kept(image);
+    }
+    true
+}
+
+// Carries out the requests on the kept list, replaces the image's file, and writes the answers and the listing.
+fn apply_kept(
+    q: &[u8],
+    x: &[u8],
+    image: &mut [u8],
+    base: u32,
+    t: &[u64],
+    raw: &mut [i64],
+    state: &mut [u8],
+    first: &mut [i64],
+    second: &mut [i64],
+) {
+    let mut answers = [0u8; ANSWERS];
+    let n = apply_all(
+        q,
+        x,
+        image,
+        base,
+        t,
+        raw,
+        state,
+        first,
+        second,
+        &mut answers,
+    );
+    if is_settled(front(&answers, n), image) {
+        print_answers(front(&answers, n));
+        print_listing(x, image, base, t, raw, state, first, second);
+    }
+}
+
+// Makes the list that is kept over the requests, which are all well formed.
+fn apply_requests(q: &[u8], x: &[u8], image: &mut [u8], base: u32, t: &[u64]) {
+    let mut raw = [0i64; LINES];
+    let mut state = [0u8; LINES];
+    let mut first = [0i64; LINES];
+    let mut second = [0i64; LINES];
+    match make_list(
+        x,
+        image,
+        base,
+        t,
+        &mut raw,
+        &mut state,
+        &mut first,
+        &mut second,
+    ) {
+        CallAnswer::Done => apply_kept(
+            q,
+            x,
+            image,
+            base,
+            t,
+            &mut raw,
+            &mut state,
+            &mut first,
+            &mut second,
+        ),
+        CallAnswer::Refused { no } => refused(no),
+    }
+}
+
+// Reads the request file and carries it out; where a line is no request nothing at all is written.
+pub fn apply(x: &[u8], image: &mut [u8], base: u32, t: &[u64]) {
+    let mut buffer = [0u8; TEXT_ROOM];
+    match read_file(REQUESTS, &mut buffer) {
+        FileRead::Bytes(n) => {
+            if TEXT_BYTES < n {
+                refused_size(b"the request file", TEXT_BYTES);
+                return;
+            }
+            if are_requests(front(&buffer, n), x, image, base, t) {
+                apply_requests(front(&buffer, n), x, image, base, t);
+            }
+        }
+        FileRead::Nothing => {}
+    }
+}

@@ -1,0 +1,177 @@
+// The command `set`: one write.
+use crate::lines::print_afresh;
+use crate::requested::ElementTyped;
+use crate::requested::NO_WAY;
+use crate::requested::Way;
+use crate::requested::element_named;
+use crate::requested::error_of;
+use crate::requested::way_of;
+use crate::requested::write_one;
+use console::arguments::INDEX;
+use console::arguments::NAME;
+use console::arguments::PART;
+use console::arguments::VALUE;
+use console::arguments::WAY;
+use console::message::refused;
+use console::replace::is_kept;
+use console::sizes::LINES;
+use console::sizes::WORD_ROOM;
+use console::sizes::front;
+use list::check::group_of;
+use list::make::make_list;
+use list::write::CallAnswer;
+
+// Writes to the kept list and to the image, replaces its file, and writes the lines that were worked out afresh.
+fn set_kept(
+    x: &[u8],
+    image: &mut [u8],
+    base: u32,
+    t: &[u64],
+    raw: &mut [i64],
+    state: &mut [u8],
+    first: &mut [i64],
+    second: &mut [i64],
+    object: u32,
+    part: u8,
+    index: u32,
+    is_raw: bool,
+    value: &[u8],
+) {
+    match write_one(
+        x,
+        image,
+        base,
+        t,
+        raw,
+        state,
+        first,
+        second,
+        object,
+        part,
+        index,
+        is_raw,
+        value,
+    ) {
+        CallAnswer::Done => {
+            if is_kept(image) {
+                print_afresh(
+                    x,
+                    image,
+                    base,
+                    t,
+                    raw,
+                    state,
+                    first,
+                    second,
+                    group_of(object, part),
+                    index,
+                );
+            }
+        }
+        CallAnswer::Refused { no } => refused(no),
+    }
+}
+
+// Makes the list that is kept over the write.
+fn set_element(
+    x: &[u8],
+    image: &mut [u8],
+    base: u32,
+    t: &[u64],
+    object: u32,
+    part: u8,
+    index: u32,
+    is_raw: bool,
+    value: &[u8],
+) {
+    let mut raw = [0i64; LINES];
+    let mut state = [0u8; LINES];
+    let mut first = [0i64; LINES];
+    let mut second = [0i64; LINES];
+    match make_list(
+        x,
+        image,
+        base,
+        t,
+        &mut raw,
+        &mut state,
+        &mut first,
+        &mut second,
+    ) {
+        CallAnswer::Done => set_kept(
+            x,
+            image,
+            base,
+            t,
+            &mut raw,
+            &mut state,
+            &mut first,
+            &mut second,
+            object,
+            part,
+            index,
+            is_raw,
+            value,
+        ),
+        CallAnswer::Refused { no } => refused(no),
+    }
+}
+
+// Takes the way and the value from the arguments.
+fn set_typed(x: &[u8], image: &mut [u8], base: u32, t: &[u64], object: u32, part: u8, index: u32) {
+    let mut word = [0u8; WORD_ROOM];
+    let mut value = [0u8; WORD_ROOM];
+    let n = os::arg(WAY, &mut word);
+    let k = os::arg(VALUE, &mut value);
+    match way_of(front(&word, n)) {
+        Way::Raw => set_element(
+            x,
+            image,
+            base,
+            t,
+            object,
+            part,
+            index,
+            true,
+            front(&value, k),
+        ),
+        Way::Physical => set_element(
+            x,
+            image,
+            base,
+            t,
+            object,
+            part,
+            index,
+            false,
+            front(&value, k),
+        ),
+        Way::Neither => error_of(NO_WAY, b"", b"", front(&word, n)),
+    }
+}
+
+// Writes the element that the arguments name.
+pub fn set(x: &[u8], image: &mut [u8], base: u32, t: &[u64]) {
+    let mut name = [0u8; WORD_ROOM];
+    let mut letter = [0u8; WORD_ROOM];
+    let mut number = [0u8; WORD_ROOM];
+    let n = os::arg(NAME, &mut name);
+    let l = os::arg(PART, &mut letter);
+    let k = os::arg(INDEX, &mut number);
+    match element_named(
+        x,
+        image,
+        base,
+        t,
+        front(&name, n),
+        front(&letter, l),
+        front(&number, k),
+    ) {
+        ElementTyped::At {
+            object,
+            part,
+            index,
+        } => set_typed(x, image, base, t, object, part, index),
+        ElementTyped::Wrong { why } => error_of(why, front(&name, n), front(&number, k), b""),
+    }
+}

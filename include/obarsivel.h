@@ -106,7 +106,7 @@ int64_t obarsivel_find(const uint8_t *text, size_t text_len,
  *   shown  1 cell or more; the number is one binary64 division of first by
  *          second, given where both are at most 2^53 in size. Where out[4] is
  *          not 1, shown[0] means nothing.
- * Answers 0, or 20, 22, 14; then out and shown mean nothing (20: untouched). */
+ * Answers 0, or 20, 22, 14; then out and shown are untouched. */
 uint32_t obarsivel_read(const uint8_t *text, size_t text_len,
                         const uint8_t *image, size_t image_len, uint32_t base,
                         const uint64_t *tables, size_t tables_len,

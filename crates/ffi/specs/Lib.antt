@@ -1,0 +1,3 @@
+-- What the C functions answer, and what their callers read out of it.
+pub mod Numbers
+pub mod Back

@@ -1,15 +1,8 @@
 // The program: lists, reads and writes the elements that a description finds in an image. README.md shows how it is used.
-mod apply;
-mod get;
-mod lines;
-mod requested;
-mod run;
-mod set;
-
+use commands::run::run;
 use console::arguments::Command;
 use console::arguments::command_typed;
 use console::message::say;
-use run::run;
 
 // Says how the program is called.
 fn print_usage() {

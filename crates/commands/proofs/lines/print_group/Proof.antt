@@ -1,5 +1,5 @@
-use Rattle.obarsivel.proofs.lines.print_group.Statement.{statement}
-use Rattle.obarsivel.proofs.lines.print_group.Tie as tie
+use Rattle.commands.proofs.lines.print_group.Statement.{statement}
+use Rattle.commands.proofs.lines.print_group.Tie as tie
 use borrow.Author.Needs.{needs}
 use Prim.Native.Nat.{_-_}
 

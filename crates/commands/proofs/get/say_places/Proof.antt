@@ -1,5 +1,5 @@
-use Rattle.obarsivel.proofs.get.say_places.Statement.{statement}
-use Rattle.obarsivel.proofs.get.say_places.Tie as tie
+use Rattle.commands.proofs.get.say_places.Statement.{statement}
+use Rattle.commands.proofs.get.say_places.Tie as tie
 use borrow.Author.Needs.{needs}
 
 abbrev Inv-loop : tie.InvT-loop

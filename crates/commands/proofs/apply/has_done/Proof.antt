@@ -1,5 +1,5 @@
-use Rattle.obarsivel.proofs.apply.has_done.Statement.{statement}
-use Rattle.obarsivel.proofs.apply.has_done.Tie as tie
+use Rattle.commands.proofs.apply.has_done.Statement.{statement}
+use Rattle.commands.proofs.apply.has_done.Tie as tie
 use borrow.Author.Needs.{needs}
 use Prim.Native.Nat.{_-_}
 use lib.ListN.{length}

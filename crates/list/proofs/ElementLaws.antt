@@ -5,22 +5,16 @@ use mathlib.Core.Bool.{Bool, true, false}
 use Prim.Native.Nat.{ℕ, _+_, _*_, _-_, _≤_, min}
 use native.Mathlib.Omega.{arith}
 use borrow.Author.Needs.{needs}
-use borrow.Author.Tests.{le-ltb, ne-eqb}
+use borrow.Author.Tests.{le-ltb}
 use lib.Dec.{ltb}
 use lib.IntN.{ℤ}
-use Rattle.cell.specs.Kind.{shapeOf}
-use Rattle.cell.specs.Raw.{rawAt}
-use Rattle.convert.specs.Fraction.{fractionOf}
-use Rattle.convert.specs.Method.{identicalOf}
 use Rattle.convert.specs.Verbal.{verbalOf}
 use Rattle.convert.specs.Told.{held}
 use Rattle.convert.specs.declared.fraction.Physical.{Physical}
-use Rattle.convert.specs.declared.method.Coefficients.{Coefficients}
 use Rattle.records.specs.Records.{mostOf}
 use Rattle.records.specs.Cells.{sectionIn, slotIn}
-use Rattle.tables.specs.Form.{sections, method, table, tablesIn, kind, first, methodOf, mask, coefficients}
-use Rattle.tables.specs.Group.{placeOf}
-use Rattle.list.specs.Element.{pastRecords, lastEntry, entryCell, textAt, meansBy, means, rawOf, lineWith, lineOf}
+use Rattle.tables.specs.Form.{sections, method, table, tablesIn, coefficients}
+use Rattle.list.specs.Element.{pastRecords, lastEntry, entryCell, textAt, means, rawOf, lineWith, lineOf}
 use Rattle.list.specs.declared.element.Line.{Line}
 
 -- ---- a record's number that is too large for any record
@@ -61,10 +55,6 @@ pub near-text : (t : List ℕ) (n : ℕ) (z : ℤ) → textAt t (min n pastRecor
 unfolding textAt
 near-text t n z = rw (table-slot t 0 n, table-slot t 1 n, table-slot t 2 n, table-slot t 3 n)
 
-pub near-means : (t : List ℕ) (n : ℕ) (z : ℤ) → meansBy t (min n pastRecords) z ≡ meansBy t n z
-unfolding meansBy
-near-means t n z = rw (method-slot t 0 n, method-slot t 9 n, near-coefficients t n)
-
 -- ---- what a raw number means
 pub entry-at : (n e : ℕ) → e ≡ min n lastEntry → 32521 + 4 * e ≡ entryCell (min n lastEntry)
 unfolding sections
@@ -77,35 +67,10 @@ module _ (t : List ℕ) (z : ℤ) where
   unfolding textAt
   text-is s a b c d at many y r g h e f pa pb pc pd = g ∙ rw (h, e, f, pa, pb, pc, pd)
 
-  -- y is what the machine reads back of z
-  module _ (y : ℤ) (r : Physical) where
-    pub by-text : (m k s n : ℕ) → r ≡ held (textAt t n y) → y ≡ z → n ≡ min (s - 1) pastRecords → s ≡ tablesIn t .slots method m 9
-        → k ≡ tablesIn t .slots method m 0 → k ≡ 22 → r ≡ held (meansBy t m z)
-    unfolding meansBy
-    by-text m k s n g h f q p e = g ∙ rw (h, f, near-text t (s - 1) z, q, ← p, e)
-
-    pub by-fraction : (m k : ℕ) (f : Coefficients) → r ≡ held (fractionOf f y) → y ≡ z → f ≡ coefficients (tablesIn t) m
-        → k ≡ tablesIn t .slots method m 0 → (k ≡ 22 → ⊥) → r ≡ held (meansBy t m z)
-    unfolding meansBy
-    by-fraction m k f g h q p e = g ∙ rw (h, q, ← p, ne-eqb k 22 e)
-
-    pub means-same : (g m : ℕ) (f : Coefficients) → r ≡ held (fractionOf f y) → y ≡ z → f ≡ identicalOf → m ≡ methodOf (tablesIn t) g → m ≡ 0 → r ≡ held (means t g z)
-    unfolding means
-    means-same g m f h k q p e = h ∙ rw (k, q, ← p, e)
-
-    pub means-is : (g m n : ℕ) → r ≡ held (meansBy t n y) → y ≡ z → n ≡ min (m - 1) pastRecords → m ≡ methodOf (tablesIn t) g → (m ≡ 0 → ⊥) → r ≡ held (means t g z)
-    unfolding means
-    means-is g m n h k q p e = h ∙ rw (k, q, near-means t (m - 1) z, ← p, ne-eqb m 0 e)
-
 -- ---- an element
 module _ (t image : List ℕ) (g i : ℕ) where
-  pub raw-is : (p k m : ℕ) (b : Bool) (r : ℤ) → p ≡ placeOf (tablesIn t) g i → k ≡ kind (tablesIn t) g → b ≡ first (tablesIn t) g → m ≡ mask (tablesIn t) g
-      → r ≡ rawAt b p (shapeOf k) m image → r ≡ rawOf t image g i
-  unfolding rawOf
-  raw-is p k m b r pp pk pb pm e = e ∙ rw (pp, pk, pb, pm)
-
   pub line-is : (z y : ℤ) (p : Physical) (l : Line) → z ≡ rawOf t image g i → y ≡ z → p ≡ held (means t g y) → l ≡ lineWith t z p → l ≡ lineOf t image g i
   unfolding lineOf
   line-is z y p l a b c d = d ∙ rw (c, b, a)
 
-pub ruleset elements = (entry-at, by-text, by-fraction, means-same, means-is, raw-is, line-is, needs)
+pub ruleset elements = (entry-at, needs)

@@ -6,6 +6,8 @@ pub mod SearchLaws
 pub mod RefreshLaws
 pub mod StandLaws
 pub mod WantedLaws
+pub mod MeaningLaws
+pub mod ApartLaws
 pub mod CallLaws
 pub mod Writes
 pub mod Demand

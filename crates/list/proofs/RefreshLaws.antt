@@ -1,14 +1,16 @@
 -- The lines worked out afresh: what the loop keeps, and what a turn of it does.
 use mathlib.Core.Path.{_≡_, refl, sym, ap, _∙_}
 use mathlib.Core.List.{List}
-use mathlib.Core.Bool.{Bool, true, false, _&&_, _||_}
-use Prim.Native.Nat.{ℕ, _+_, _-_, _≤_, _<_}
+use mathlib.Core.Bool.{Bool, true, false, cond, _&&_, _||_}
+use Prim.Native.Nat.{ℕ, zero, suc, _+_, _-_, _≤_, _<_}
 use native.Mathlib.Omega.{arith}
+use native.Mathlib.Numerals.{add-one}
+use native.Mathlib.Nat.{add-zero}
 use borrow.Author.Needs.{needs}
 use borrow.Author.Tests.{lt-ltb, le-ltb, leb-true, ltb-true, ltb-false}
 use lib.Dec.{ltb, leb}
 use lib.IntN.{ℤ, pos}
-use lib.ListN.{length, set}
+use lib.ListN.{length, getD, set, length-set}
 use lib.Seq.{set-out}
 use Rattle.tables.specs.Form.{tablesIn, total}
 use Rattle.tables.specs.Group.{sumBelow, elements, bytes, placeOf}
@@ -17,7 +19,7 @@ use Rattle.tables.proofs.Reading.{total-is}
 use Rattle.list.specs.declared.element.Line.{Line}
 use Rattle.list.specs.Lines.{over, keep, fresh}
 use Rattle.list.specs.Element.{lineOf, shares, touched}
-use Rattle.list.specs.Calls.{Lent, checkedNo, Kept, kept, room, groups, putLine, remade, refreshed}
+use Rattle.list.specs.Calls.{Lent, checkedNo, Kept, kept, room, groups, putLine, putLines, remade, refreshed}
 use Rattle.list.proofs.LineLaws.{sum-more, sum-in, over-none, upto, upto-none, upto-next, upto-all, turn, length-at, line-kept, line-fresh, fresh-all}
 use Rattle.list.proofs.CheckLaws.{checked-tests}
 use Rattle.text.proofs.Within.{and-right}
@@ -90,6 +92,62 @@ module _ (img : List ℕ) (r : List ℤ) (s : List ℕ) (a b : List ℤ) (k : �
       → kept img r′ s′ a′ b′ ≡ putLine (all || p) k l (kept img r s a b)
   line-afresh r′ s′ a′ b′ w h f g = put-afresh img r s a b k (all || p) r′ s′ a′ b′ l w (rw e at h) f g
 
+-- ---- the lines of a group
+module _ (s : ℕ → ℕ → Bool) (t img : List ℕ) (g k : ℕ) where
+  pub group-none : (n : ℕ) (c : Kept) → n ≡ 0 → c ≡ putLines s t img g k n c
+  group-none n c e = rw e
+
+  pub group-start : (c : Kept) → c ≡ putLines s t img g k 0 c
+  group-start c = refl
+
+  pub group-turn : (i : ℕ) (c c′ c₀ : Kept) → c ≡ putLines s t img g k i c₀ → c′ ≡ putLine (s g i) (k + i) (lineOf t img g i) c → c′ ≡ putLines s t img g k (i + 1) c₀
+  group-turn i c c′ c₀ p q = q ∙ rw (p, add-one i)
+
+  pub group-end : (i n : ℕ) (c c₀ : Kept) → n ≤ i → i ≤ n → c ≡ putLines s t img g k i c₀ → c ≡ putLines s t img g k n c₀
+  group-end i n c c₀ h l p = let e : i ≡ n = omega arith in rw e at p
+
+  pub group-passed : (n : ℕ) (c : Kept) → ((i : ℕ) → i < n → s g i ≡ false) → c ≡ putLines s t img g k n c
+  group-passed zero c h = refl
+  group-passed (suc n) c h =
+      left-alone (c .image) (c .raw) (c .state) (c .first) (c .second) (k + n) (s g n) (lineOf t img g n) (h n (omega arith))
+      ∙ ap (putLine (s g n) (k + n) (lineOf t img g n)) (group-passed n c (λ i l. h i (omega arith)))
+
+  lines-raw : (i : ℕ) (c : Kept) → length (putLines s t img g k i c .raw) ≡ length (c .raw)
+  lines-raw zero c = refl
+  lines-raw (suc i) c =
+      let d = putLines s t img g k i c in
+      length-set (d .raw) (k + i) (cond (s g i) (lineOf t img g i .raw) (getD (d .raw) (k + i) (pos 0))) ∙ lines-raw i c
+
+  lines-state : (i : ℕ) (c : Kept) → length (putLines s t img g k i c .state) ≡ length (c .state)
+  lines-state zero c = refl
+  lines-state (suc i) c =
+      let d = putLines s t img g k i c in
+      length-set (d .state) (k + i) (cond (s g i) (lineOf t img g i .state) (getD (d .state) (k + i) 0)) ∙ lines-state i c
+
+  lines-first : (i : ℕ) (c : Kept) → length (putLines s t img g k i c .first) ≡ length (c .first)
+  lines-first zero c = refl
+  lines-first (suc i) c =
+      let d = putLines s t img g k i c in
+      length-set (d .first) (k + i) (cond (s g i) (lineOf t img g i .first) (getD (d .first) (k + i) (pos 0))) ∙ lines-first i c
+
+  lines-second : (i : ℕ) (c : Kept) → length (putLines s t img g k i c .second) ≡ length (c .second)
+  lines-second zero c = refl
+  lines-second (suc i) c =
+      let d = putLines s t img g k i c in
+      length-set (d .second) (k + i) (cond (s g i) (lineOf t img g i .second) (getD (d .second) (k + i) (pos 0))) ∙ lines-second i c
+
+  pub group-raw : (i : ℕ) (c c₀ : Kept) → c ≡ putLines s t img g k i c₀ → length (c .raw) ≡ length (c₀ .raw)
+  group-raw i c c₀ e = ap (λ (z : Kept). length (z .raw)) e ∙ lines-raw i c₀
+
+  pub group-state : (i : ℕ) (c c₀ : Kept) → c ≡ putLines s t img g k i c₀ → length (c .state) ≡ length (c₀ .state)
+  group-state i c c₀ e = ap (λ (z : Kept). length (z .state)) e ∙ lines-state i c₀
+
+  pub group-first : (i : ℕ) (c c₀ : Kept) → c ≡ putLines s t img g k i c₀ → length (c .first) ≡ length (c₀ .first)
+  group-first i c c₀ e = ap (λ (z : Kept). length (z .first)) e ∙ lines-first i c₀
+
+  pub group-second : (i : ℕ) (c c₀ : Kept) → c ≡ putLines s t img g k i c₀ → length (c .second) ≡ length (c₀ .second)
+  group-second i c c₀ e = ap (λ (z : Kept). length (z .second)) e ∙ lines-second i c₀
+
 -- ---- the loop: k₀ is what was kept at its start, c what is kept now
 module _ (s : ℕ → ℕ → Bool) (t img : List ℕ) (k₀ : Kept) where
   abbrev counts : ℕ → ℕ
@@ -159,6 +217,27 @@ module _ (s : ℕ → ℕ → Bool) (t img : List ℕ) (k₀ : Kept) where
             seconds = turn s (λ g i. lineOf t img g i .second) (pos 0) counts (k₀ .second) (c .second) (c′ .second) g i k (f .line) (omega arith) (f .seconds) (ap (λ (z : Kept). z .second) e);
           }
 
+      -- while the lines of the groups so far have room, no column has another length
+      module _ (z : sumBelow g counts + i ≤ room k₀) where
+        at-raw : length (c .raw) ≡ length (k₀ .raw)
+        at-raw = length-at _ counts (k₀ .raw) (c .raw) g i (omega arith) (f .raws)
+
+        at-state : length (c .state) ≡ length (k₀ .state)
+        at-state = length-at _ counts (k₀ .state) (c .state) g i (omega arith) (f .states)
+
+        at-first : length (c .first) ≡ length (k₀ .first)
+        at-first = length-at _ counts (k₀ .first) (c .first) g i (omega arith) (f .firsts)
+
+        at-second : length (c .second) ≡ length (k₀ .second)
+        at-second = length-at _ counts (k₀ .second) (c .second) g i (omega arith) (f .seconds)
+
+      -- the lines of the next group have room
+      pub group-room : (n m : ℕ) → n ≡ groups t → m ≡ counts g → g < n → i ≡ 0 → k + m ≤ room c
+      group-room n m pn pm lt e =
+          let b : sumBelow g counts + counts g ≤ sumBelow (groups t) counts = sum-in counts g (groups t) (omega arith) in
+          let z : sumBelow g counts + i ≤ room k₀ = omega arith in
+          omega (arith, f .line, at-raw z, at-state z, at-first z, at-second z)
+
       module _ (n : ℕ) (pn : n ≡ groups t) (h : n ≤ g) where
         at-end : g ≡ groups t
         at-end = omega (arith, f .within)
@@ -170,16 +249,16 @@ module _ (s : ℕ → ℕ → Bool) (t img : List ℕ) (k₀ : Kept) where
         done-lines = let z : sumBelow g counts ≡ sumBelow (groups t) counts = ap (λ (y : ℕ). sumBelow y counts) at-end in omega (arith, no-index)
 
         pub raw-length : length (c .raw) ≡ length (k₀ .raw)
-        raw-length = length-at _ counts (k₀ .raw) (c .raw) g i (omega (arith, done-lines)) (f .raws)
+        raw-length = at-raw done-lines
 
         pub state-length : length (c .state) ≡ length (k₀ .state)
-        state-length = length-at _ counts (k₀ .state) (c .state) g i (omega (arith, done-lines)) (f .states)
+        state-length = at-state done-lines
 
         pub first-length : length (c .first) ≡ length (k₀ .first)
-        first-length = length-at _ counts (k₀ .first) (c .first) g i (omega (arith, done-lines)) (f .firsts)
+        first-length = at-first done-lines
 
         pub second-length : length (c .second) ≡ length (k₀ .second)
-        second-length = length-at _ counts (k₀ .second) (c .second) g i (omega (arith, done-lines)) (f .seconds)
+        second-length = at-second done-lines
 
         whole : {A : Type 0} (w : ℕ → ℕ → A) (d : A) (l₀ l : List A) → Column w d l₀ l g i → l ≡ fresh s w d counts (groups t) l₀
         unfolding fresh
@@ -194,6 +273,25 @@ module _ (s : ℕ → ℕ → Bool) (t img : List ℕ) (k₀ : Kept) where
           first = whole (λ g i. lineOf t img g i .first) (pos 0) (k₀ .first) (c .first) (f .firsts) j;
           second = whole (λ g i. lineOf t img g i .second) (pos 0) (k₀ .second) (c .second) (f .seconds) j;
         }
+
+  -- a group's lines: from its first line to the next group's
+  module _ (g k : ℕ) (c : Kept) (f : Refreshing g 0 k c) (enough : sumBelow (groups t) counts ≤ room k₀) (n m : ℕ) (pn : n ≡ groups t) (pm : m ≡ counts g) (lt : g < n) where
+    lines-on : (i : ℕ) → i ≤ m → Refreshing g i (k + i) (putLines s t img g k i c)
+    lines-on zero h = rw (add-zero k) f
+    lines-on (suc i) h =
+        let e : k + suc i ≡ k + i + 1 = omega arith in
+        rw (e, ← add-one i) (refresh-turn g i (k + i) (putLines s t img g k i c) (lines-on i (omega arith)) enough n m (putLines s t img g k (suc i) c) pn pm lt (omega arith) refl)
+
+    pub refresh-group : (c′ : Kept) → c′ ≡ putLines s t img g k m c → Refreshing (g + 1) 0 (k + m) c′
+    refresh-group c′ e = rw e (refresh-next g m (k + m) (putLines s t img g k m c) (lines-on m (omega arith)) n m pn pm lt (omega arith))
+
+    pub group-below : k + m ≤ room k₀
+    group-below =
+        let b : sumBelow g counts + counts g ≤ sumBelow (groups t) counts = sum-in counts g (groups t) (omega arith) in
+        omega (arith, f .line)
+
+    pub group-fits : k + m ≤ room c
+    group-fits = group-room g 0 k c f enough n m pn pm lt refl
 
 -- ---- making a list
 pub refreshed-all : (t : List ℕ) (k : Kept) (s : ℕ → ℕ → Bool) → ((g i : ℕ) → s g i ≡ true) → refreshed s t (k .image) k ≡ remade t k

@@ -20,8 +20,9 @@ use Rattle.tables.specs.Group.{groupOf, elements, bytes, placeOf}
 use Rattle.tables.specs.Rule.{isVerbal, keepsRule}
 use Rattle.tables.specs.Sizes.{sizesFit}
 use Rattle.list.specs.declared.element.Line.{Line}
+use Rattle.list.specs.declared.meaning.Meaning.{Meaning}
 use Rattle.list.specs.Lines.{made, fresh}
-use Rattle.list.specs.Element.{means, rawOf, lineOf, shares, touched}
+use Rattle.list.specs.Element.{pastRecords, means, rawOf, lineOf, shares, touched}
 
 -- a length of description, a length of image, a base address: what a call lends beside the tables
 pub record Lent : Type 0 where
@@ -131,6 +132,11 @@ putLine p k l c = record {
   second = set (c .second) k (cond p (l .second) (getD (c .second) k (pos 0)));
 }
 
+-- the first so many lines of group g, which begin at line k, worked out afresh where s says so
+abbrev pub putLines : (ℕ → ℕ → Bool) → List ℕ → List ℕ → ℕ → ℕ → ℕ → Kept → Kept
+putLines s t img g k zero c = c
+putLines s t img g k (suc i) c = putLine (s g i) (k + i) (lineOf t img g i) (putLines s t img g k i c)
+
 -- what a call answers, and what is kept after it: "No refusal touches image or list."
 pub record After : Type 0 where
   pub answer : Answer (Unit {0})
@@ -184,6 +190,14 @@ asksBy T g = cond (eqb (methodOf T g) 0) identicalOf (coefficients T (methodOf T
 
 unfoldable pub isTabVerb : Tables → ℕ → Bool
 isTabVerb T g = not (eqb (methodOf T g) 0) && isVerbal (T .slots method (methodOf T g - 1) 0)
+
+-- what group g's raw numbers mean by: its verbal table and that table's number, or its coefficients
+abbrev pub meaningOf : List ℕ → ℕ → Meaning
+meaningOf t g = record {
+  verbal = isTabVerb (tablesIn t) g;
+  table = min (tablesIn t .slots method (methodOf (tablesIn t) g - 1) 9 - 1) pastRecords;
+  k = asksBy (tablesIn t) g;
+}
 
 -- "Raw writes test type and mask, no limits." "15 .. physical write under TAB_VERB"
 abbrev pub wantedRaw : Tables → ℕ → Wanted → Answer ℤ

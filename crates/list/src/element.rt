@@ -1,22 +1,19 @@
-// One element: its raw number, what it means, and its line in the list.
+// One element: its raw number, and the texts of verbal tables.
 use cell::raw::read_raw;
 use convert::fraction::Physical;
-use convert::fraction::fraction_of;
-use convert::method::identical;
 use convert::verbal::text_of;
-use tables::form::METHOD;
 use tables::form::TABLE;
 use tables::form::slot_of;
-use tables::group::is_first;
-use tables::group::kind_of;
-use tables::group::mask_of;
-use tables::group::method_of;
-use tables::group::place_of;
-use tables::method::coefficients_of;
+use tables::group::Storage;
+use tables::group::place_by;
+use tables::group::storage_of;
 ghost use mathlib.Core.Path.{_≡_};
 ghost use Prim.Native.Nat.{_-_, min};
 ghost use Rattle.convert.specs.Told.{held};
-ghost use Rattle.list.specs.Element.{pastRecords, lastEntry, entryCell, textAt, meansBy, means, rawOf, lineOf};
+ghost use Rattle.cell.specs.Kind.{shapeOf};
+ghost use Rattle.cell.specs.Raw.{rawAt};
+ghost use Rattle.tables.specs.Group.{placeBy};
+ghost use Rattle.list.specs.Element.{pastRecords, lastEntry, entryCell, textAt, rawOf};
 
 // A line of the list: the raw number, the state (0 none, 1 number, 2 text), and its two numbers or places.
 pub struct Line {
@@ -28,9 +25,6 @@ pub struct Line {
 
 // The conversion that has a verbal table.
 pub const TAB_VERB: u64 = 22;
-
-// Where a method holds its verbal table.
-const VERBAL: u16 = 9;
 
 // The most entries of all verbal tables, and the cell of the first.
 const LAST_ENTRY: u64 = 1024;
@@ -80,7 +74,7 @@ fn entry_cell(n: u64) -> usize
 }
 
 // The text that a verbal table gives.
-fn text_at(t: &[u64], s: u16, raw: i64) -> Physical
+pub fn text_at(t: &[u64], s: u16, raw: i64) -> Physical
     ensures { λ r. ⌜ r ≡ held (textAt (now (t .entry)) s raw) ⌝ }
 {
     let from = slot_of(t, TABLE, s, 0);
@@ -90,46 +84,17 @@ fn text_at(t: &[u64], s: u16, raw: i64) -> Physical
     text_of(t, entry_cell(from), entries(many), first, past, raw)
 }
 
-// What a raw number means by a method.
-fn means_by(t: &[u64], m: u16, raw: i64) -> Physical
-    ensures { λ r. ⌜ r ≡ held (meansBy (now (t .entry)) m raw) ⌝ }
+// The raw number of element i of what is stored so.
+pub fn raw_by(image: &[u8], s: Storage, i: u32) -> i64
+    ensures { λ r. ⌜ r ≡ rawAt (s .first) (placeBy s i) (shapeOf (s .kind)) (s .mask) (now (image .entry)) ⌝ }
 {
-    if slot_of(t, METHOD, m, 0) == TAB_VERB {
-        let s = slot_of(t, METHOD, m, VERBAL);
-        return text_at(t, record_before(s), raw);
-    }
-    fraction_of(coefficients_of(t, m), raw)
-}
-
-// What a raw number of a group means.
-pub fn means(t: &[u64], g: u16, raw: i64) -> Physical
-    ensures { λ r. ⌜ r ≡ held (means (now (t .entry)) g raw) ⌝ }
-{
-    let m = method_of(t, g);
-    if m == 0 {
-        return fraction_of(identical(), raw);
-    }
-    means_by(t, record_before(m), raw)
+    let at = place_by(s, i) as usize;
+    read_raw(image, at, s.kind, s.first, s.mask)
 }
 
 // The raw number of an element.
 pub fn raw_of(t: &[u64], image: &[u8], g: u16, i: u32) -> i64
     ensures { λ r. ⌜ r ≡ rawOf (now (t .entry)) (now (image .entry)) g i ⌝ }
 {
-    let at = place_of(t, g, i) as usize;
-    read_raw(image, at, kind_of(t, g), is_first(t, g), mask_of(t, g))
-}
-
-// The line of an element.
-pub fn line_of(t: &[u64], image: &[u8], g: u16, i: u32) -> Line
-    ensures { λ r. ⌜ r ≡ lineOf (now (t .entry)) (now (image .entry)) g i ⌝ }
-{
-    let raw = raw_of(t, image, g, i);
-    let p = means(t, g, raw);
-    Line {
-        raw,
-        state: p.state,
-        first: p.first,
-        second: p.second,
-    }
+    raw_by(image, storage_of(t, g), i)
 }

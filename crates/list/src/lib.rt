@@ -1,8 +1,10 @@
 // The value list: reading, the search by name, making a list, and writes.
+mod apart;
 pub mod bytes;
 pub mod check;
 mod element;
 pub mod make;
+mod meaning;
 pub mod read;
 mod refresh;
 pub mod search;

@@ -1,17 +1,24 @@
 // The lines of the list, worked out afresh.
-use crate::bytes::touches;
+use crate::apart::has_byte;
+use crate::apart::lies_apart;
 use crate::element::Line;
-use crate::element::line_of;
+use crate::meaning::Meaning;
+use crate::meaning::line_by;
+use crate::meaning::meaning_of;
 use tables::form::GROUP;
 use tables::form::count_of;
+use tables::group::Storage;
 use tables::group::elements_of;
+use tables::group::storage_of;
 ghost use mathlib.Core.Path.{_≡_};
-ghost use Prim.Native.Nat.{_+_, _≤_};
+ghost use mathlib.Core.Bool.{true, false, _||_};
+ghost use Prim.Native.Nat.{ℕ, _+_, _*_, _≤_, _<_};
 ghost use lib.ListN.{set};
+ghost use Rattle.cell.specs.Kind.{shapeOf};
 ghost use Rattle.tables.specs.Form.{tablesIn};
-ghost use Rattle.tables.specs.Group.{sumBelow, elements};
-ghost use Rattle.list.specs.Element.{lineOf, picked};
-ghost use Rattle.list.specs.Calls.{kept, room, groups, putLine, refreshed};
+ghost use Rattle.tables.specs.Group.{sumBelow, elements, storageOf, placeBy};
+ghost use Rattle.list.specs.Element.{lineOf, shares, picked};
+ghost use Rattle.list.specs.Calls.{kept, room, groups, putLine, putLines, meaningOf, refreshed};
 
 // Stores a number in a column; nothing past its end.
 fn put(column: &mut [i64], k: usize, v: i64)
@@ -60,17 +67,79 @@ fn refresh_line(
     all: bool,
     lo: u64,
     many: u64,
-    g: u16,
+    s: Storage,
+    m: Meaning,
     i: u32,
     k: usize,
 )
-    ensures { λ _. ⌜ kept (now (image .entry)) (now (raw .exit)) (now (state .exit)) (now (first .exit)) (now (second .exit))
+    ensures { λ _. ⌜ ((g : ℕ) → s ≡ storageOf (tablesIn (now (t .entry))) g → m ≡ meaningOf (now (t .entry)) g
+        → kept (now (image .entry)) (now (raw .exit)) (now (state .exit)) (now (first .exit)) (now (second .exit))
         ≡ putLine (picked (now (t .entry)) lo (lo + many) all g i) k (lineOf (now (t .entry)) (now (image .entry)) g i)
+        (kept (now (image .entry)) (now (raw .entry)) (now (state .entry)) (now (first .entry)) (now (second .entry)))) ⌝ }
+{
+    if all | has_byte(s, lo, many, i) {
+        let line = line_by(t, image, s, m, i);
+        put_line(raw, state, first, second, k, line);
+    }
+}
+
+// Whether a group is passed as a whole: not all lines are worked out afresh, and its bytes lie apart.
+fn passes(all: bool, s: Storage, lo: u64, many: u64) -> bool
+    ensures { λ r. ⌜ (r ≡ true → (i : ℕ) → i < s .x * s .y → (all || shares lo (lo + many) (placeBy s i) (shapeOf (s .kind) .bytes)) ≡ false) ⌝ }
+{
+    if all {
+        return false;
+    }
+    lies_apart(s, lo, many)
+}
+
+// The n lines of group g, the first of them line k.
+fn refresh_group(
+    t: &[u64],
+    image: &[u8],
+    raw: &mut [i64],
+    state: &mut [u8],
+    first: &mut [i64],
+    second: &mut [i64],
+    all: bool,
+    lo: u64,
+    many: u64,
+    g: u16,
+    n: u32,
+    k: usize,
+)
+    requires { ⌜ n ≡ elements (tablesIn (now t)) g ⌝ }
+    requires { ⌜ k + n ≤ room (kept (now image) (now raw) (now state) (now first) (now second)) ⌝ }
+    ensures { λ _. ⌜ kept (now (image .entry)) (now (raw .exit)) (now (state .exit)) (now (first .exit)) (now (second .exit))
+        ≡ putLines (picked (now (t .entry)) lo (lo + many) all) (now (t .entry)) (now (image .entry)) g k n
         (kept (now (image .entry)) (now (raw .entry)) (now (state .entry)) (now (first .entry)) (now (second .entry))) ⌝ }
 {
-    if all | touches(t, lo, many, g, i) {
-        let line = line_of(t, image, g, i);
-        put_line(raw, state, first, second, k, line);
+    if n == 0 {
+        return;
+    }
+    let s = storage_of(t, g);
+    if passes(all, s, lo, many) {
+        return;
+    }
+    let m = meaning_of(t, g);
+    let mut i: u32 = 0;
+    while i < n {
+        refresh_line(
+            t,
+            image,
+            raw,
+            state,
+            first,
+            second,
+            all,
+            lo,
+            many,
+            s,
+            m,
+            i,
+            k + (i as usize),
+        );
+        i += 1;
     }
 }
 
@@ -93,16 +162,24 @@ pub fn refresh(
 {
     let n = count_of(t, GROUP);
     let mut g: u16 = 0;
-    let mut i: u32 = 0;
     let mut k: usize = 0;
     while g < n {
-        if i < elements_of(t, g) {
-            refresh_line(t, image, raw, state, first, second, all, lo, many, g, i, k);
-            i += 1;
-            k += 1;
-        } else {
-            g += 1;
-            i = 0;
-        }
+        let count = elements_of(t, g);
+        refresh_group(
+            t,
+            image,
+            raw,
+            state,
+            first,
+            second,
+            all,
+            lo,
+            many,
+            g,
+            count,
+            k,
+        );
+        k += count as usize;
+        g += 1;
     }
 }

@@ -36,7 +36,7 @@ pub fn raw_wanted(t: &[u64], g: u16, value: i64) -> RawAnswer
 }
 
 // Whether a group's values are texts.
-fn is_tab_verb(t: &[u64], g: u16) -> bool
+pub fn is_tab_verb(t: &[u64], g: u16) -> bool
     ensures { λ r. ⌜ r ≡ isTabVerb (tablesIn (now (t .entry))) g ⌝ }
 {
     let m = method_of(t, g);
@@ -47,7 +47,7 @@ fn is_tab_verb(t: &[u64], g: u16) -> bool
 }
 
 // The coefficients that a group's values are asked by.
-fn asks_by(t: &[u64], g: u16) -> Coefficients
+pub fn asks_by(t: &[u64], g: u16) -> Coefficients
     ensures { λ r. ⌜ r ≡ asksBy (tablesIn (now (t .entry))) g ⌝ }
 {
     let m = method_of(t, g);

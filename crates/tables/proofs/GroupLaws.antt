@@ -17,8 +17,9 @@ use Rattle.convert.specs.declared.method.Coefficients.{Coefficients}
 use Rattle.cell.specs.Kind.{shapeOf}
 use Rattle.cell.proofs.Shapes.{bytes-le}
 use Rattle.records.specs.Cells.{sectionIn, slotIn}
-use Rattle.tables.specs.Form.{sections, group, method, Tables, tablesIn, pastPoints, pastCoefficient, kind, first, place, x, y, wide, high, walk, forbidden, limit, coefficient, coefficients}
-use Rattle.tables.specs.Group.{position, elements, bytes, placeOf}
+use Rattle.tables.specs.Form.{sections, group, method, Tables, tablesIn, pastPoints, pastCoefficient, kind, first, place, x, y, wide, high, walk, mask, forbidden, limit, coefficient, coefficients}
+use Rattle.tables.specs.Group.{position, elements, bytes, placeOf, storageOf, placeBy}
+use Rattle.tables.specs.declared.group.Storage.{Storage}
 
 module _ (t : List ℕ) (g : ℕ) where
   pub first-is : (v : ℕ) → v ≡ slotIn t (sectionIn sections group) g 1 → eqb v 1 ≡ first (tablesIn t) g
@@ -59,6 +60,10 @@ module _ (T : Tables) (g a b : ℕ) (p : a ≡ x T g) (q : b ≡ y T g) where
 
 pub bytes-is : (T : Tables) (g k r : ℕ) → k ≡ kind T g → r ≡ shapeOf k .bytes → r ≡ bytes T g
 bytes-is T g k r p q = rw (q, p)
+
+pub stored-is : (T : Tables) (g k : ℕ) (f : Bool) (p a b c d w m : ℕ) → k ≡ kind T g → f ≡ first T g → p ≡ place T g → a ≡ x T g → b ≡ y T g → c ≡ wide T g → d ≡ high T g → w ≡ walk T g → m ≡ mask T g
+    → _≡_ {A = Storage} (record { kind = k; first = f; place = p; x = a; y = b; wide = c; high = d; walk = w; mask = m }) (storageOf T g)
+stored-is T g k f p a b c d w m ek ef ep ea eb ec ed ew em = rw (ek, ef, ep, ea, eb, ec, ed, ew, em)
 
 pub ruleset many = (elements-fit, elements-are, bytes-is, needs)
 
@@ -118,16 +123,20 @@ module _ (w x wide high i : ℕ) where
 
 pub ruleset positions = (at-y-fastest, at-listed, at-last, at-none, needs)
 
-module _ (T : Tables) (g i w a c d at h s : ℕ) (pw : w ≡ walk T g) (pa : a ≡ x T g) (pc : c ≡ wide T g) (pd : d ≡ high T g) (pt : at ≡ position w a c d i) (ph : h ≡ bytes T g) where
-  pub place-is : s ≡ place T g → s + h * at ≡ placeOf T g i
-  unfolding placeOf
-  place-is ps = rw (ps, ph, pt, pw, pa, pc, pd)
+-- an element's bytes times its position
+pub place-fits : (k w a c d i at h : ℕ) → at ≡ position w a c d i → h ≡ shapeOf k .bytes → i < 2 ^ 32 → a < 2 ^ 16 → c < 2 ^ 16 → d < 2 ^ 16 → h * at ≤ 2 ^ 51
+place-fits k w a c d i at h pt ph hi ha hc hd =
+    let l : h ≤ 4 = rw ph (bytes-le k) in
+    mul-le-mul {n₂ = 4} {m₂ = 2 ^ 49} l (rw pt (position-small w a c d i hi ha hc hd))
 
-  -- an element's bytes times its position
-  pub place-fits : i < 2 ^ 32 → a < 2 ^ 16 → c < 2 ^ 16 → d < 2 ^ 16 → h * at ≤ 2 ^ 51
-  place-fits hi ha hc hd =
-      let l : h ≤ 4 = rw ph (bytes-le (kind T g)) in
-      mul-le-mul {n₂ = 4} {m₂ = 2 ^ 49} l (rw pt (position-small w a c d i hi ha hc hd))
+pub place-is : (T : Tables) (g i : ℕ) (s : Storage) (r : ℕ) → s ≡ storageOf T g → r ≡ placeBy s i → r ≡ placeOf T g i
+unfolding placeOf
+place-is T g i s r p q = rw (q, p)
+
+pub place-sum : (s : Storage) (i at h : ℕ) → at ≡ position (s .walk) (s .x) (s .wide) (s .high) i → h ≡ shapeOf (s .kind) .bytes → s .place + h * at ≡ placeBy s i
+place-sum s i at h p q = rw (p, q)
+
+pub ruleset stores = (stored-is, place-is, needs)
 
 -- ---- methods
 

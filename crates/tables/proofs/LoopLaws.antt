@@ -1,12 +1,14 @@
 -- The rule over all records of a section, over the cells that are not used, and the sum of elements, by the turns that the code takes.
-use Prim.Native.Nat.{ℕ, _+_, _-_, _*_, _^_, _≤_, _<_}
+use Prim.Native.Nat.{ℕ, zero, suc, _+_, _-_, _*_, _^_, _≤_, _<_, min}
 use mathlib.Core.Path.{_≡_, refl, sym, _∙_}
 use mathlib.Core.List.{List}
-use mathlib.Core.Bool.{Bool, true, false, _&&_}
+use mathlib.Core.Bool.{Bool, true, false, _&&_, and-true}
 use native.Mathlib.Omega.{arith}
 use native.Mathlib.Nat.{mul-le-mul-left}
 use borrow.Author.Needs.{needs}
-use borrow.Author.Tests.{ltb-true, ltb-false, eq-eqb, ne-eqb}
+use native.Mathlib.Numerals.{add-one}
+use borrow.Author.Tests.{ltb-true, ltb-false, eqb-true, eqb-false, eq-eqb, ne-eqb}
+use lib.Bits.{bitOr, or-add-and, and-le-l, and-le-r}
 use lib.Dec.{eqb, leb, ltb}
 use lib.ListN.{length, getD, List·getD-eq-default}
 use Rattle.records.specs.Cells.{sectionIn, countIn, slotIn}
@@ -15,7 +17,7 @@ use Rattle.records.proofs.OpLaws.{product}
 use Rattle.tables.specs.Form.{sections, Tables, tablesIn}
 use Rattle.tables.specs.Group.{sumBelow, elements}
 use Rattle.tables.specs.Rule.{allBelow, countFits, unusedZero, formRule, ruled, keepsRule}
-use Rattle.tables.proofs.All.{all-none, all-more, all-fails, all-at, all-of, sum-none, sum-more, sum-most}
+use Rattle.tables.proofs.All.{all-none, all-more, all-fails, sum-none, sum-more, sum-most}
 use Rattle.tables.proofs.GroupLaws.{elements-most}
 
 -- r is what the code says of record i; c the number of records
@@ -56,27 +58,54 @@ pub ruleset zeros = (zeros-none, zeros-on, zeros-stop, zeros-done, needs)
 abbrev pub clearAt : List ℕ → ℕ → ℕ → Bool
 clearAt t a k = eqb (getD t (a + k) 0) 0
 
+-- two numbers are zero together where they have no bit
+pub none-of-both : (a b : ℕ) → eqb (bitOr a b) 0 ≡ (eqb a 0 && eqb b 0)
+none-of-both a b = by-zero (eqb (bitOr a b) 0) refl where
+  by-zero : (z : Bool) → eqb (bitOr a b) 0 ≡ z → z ≡ (eqb a 0 && eqb b 0)
+  by-zero true h =
+      let o : bitOr a b ≡ 0 = eqb-true (bitOr a b) 0 h in
+      let p : a ≡ 0 = omega (arith, or-add-and a b, and-le-r a b) in
+      let q : b ≡ 0 = omega (arith, or-add-and a b, and-le-l a b) in
+      rw (p, q)
+  by-zero false h = sym (by-first (eqb a 0) (eqb b 0) refl refl) where
+    by-first : (c d : Bool) → eqb a 0 ≡ c → eqb b 0 ≡ d → (c && d) ≡ false
+    by-first false d p q = refl
+    by-first true false p q = refl
+    by-first true true p q =
+        let n : bitOr a b ≡ 0 → ⊥ = eqb-false (bitOr a b) 0 h in
+        absurd (n (omega (arith, or-add-and a b, eqb-true a 0 p, eqb-true b 0 q)))
+
 module _ (t : List ℕ) (a : ℕ) where
-  pub clear-none : allBelow 0 (clearAt t a) ≡ true
-  clear-none = all-none (clearAt t a)
+  pub clear-none : eqb 0 0 ≡ allBelow 0 (clearAt t a)
+  clear-none = sym (all-none (clearAt t a))
 
-  pub clear-on : (k : ℕ) → allBelow k (clearAt t a) ≡ true → getD t (a + k) 0 ≡ 0 → allBelow (k + 1) (clearAt t a) ≡ true
-  clear-on k p h = all-more (clearAt t a) k p (eq-eqb _ 0 h)
-
-  pub clear-stop : (n k : ℕ) → k < n → (getD t (a + k) 0 ≡ 0 → ⊥) → false ≡ allBelow n (clearAt t a)
-  clear-stop n k l h = sym (all-fails (clearAt t a) n k l (ne-eqb _ 0 h))
-
-  pub clear-done : (n k : ℕ) → n ≤ k → k ≤ n → allBelow k (clearAt t a) ≡ true → true ≡ allBelow n (clearAt t a)
-  clear-done n k h l p = let e : n ≡ k = omega arith in rw e (sym p)
+  pub clear-on : (k v : ℕ) → eqb v 0 ≡ allBelow k (clearAt t a) → eqb (bitOr v (getD t (a + k) 0)) 0 ≡ allBelow (k + 1) (clearAt t a)
+  unfolding allBelow
+  clear-on k v p = none-of-both v (getD t (a + k) 0) ∙ rw (add-one k, p)
 
   -- past the end there is no cell
-  pub clear-past : (n k : ℕ) → length t ≤ a + k → allBelow k (clearAt t a) ≡ true → true ≡ allBelow n (clearAt t a)
-  clear-past n k l p = sym (all-of n (clearAt t a) (λ i h. by-place i (ltb i k) refl)) where
-    by-place : (i : ℕ) (b : Bool) → ltb i k ≡ b → clearAt t a i ≡ true
-    by-place i true b = all-at k (clearAt t a) p i (ltb-true i k b)
-    by-place i false b = let h : k ≤ i = ltb-false i k b in eq-eqb _ 0 (List·getD-eq-default t 0 (omega arith))
+  clear-past : (k n : ℕ) → length t ≤ a + k → k ≤ n → allBelow k (clearAt t a) ≡ allBelow n (clearAt t a)
+  unfolding allBelow
+  clear-past k zero l h = let e : k ≡ 0 = omega arith in rw e
+  clear-past k (suc n) l h = by-place (eqb k (suc n)) refl (clear-past k n l) where
+    by-place : (b : Bool) → eqb k (suc n) ≡ b → (k ≤ n → allBelow k (clearAt t a) ≡ allBelow n (clearAt t a)) → allBelow k (clearAt t a) ≡ (allBelow n (clearAt t a) && clearAt t a n)
+    by-place true b ih = rw (eqb-true k (suc n) b)
+    by-place false b ih =
+        let d : k ≡ suc n → ⊥ = eqb-false k (suc n) b in
+        let e : k ≤ n = omega (arith, d) in
+        rw (ih e, eq-eqb (getD t (a + n) 0) 0 (List·getD-eq-default t 0 (omega arith)), and-true)
 
-pub ruleset clears = (clear-none, clear-on, clear-stop, clear-done, clear-past, needs)
+  -- e cells are there, of m
+  pub clear-done : (m e k v : ℕ) → e ≡ min (length t - a) m → e ≤ k → k ≤ e → eqb v 0 ≡ allBelow k (clearAt t a) → eqb v 0 ≡ allBelow m (clearAt t a)
+  clear-done m e k v p h l q = by-room (ltb k m) refl where
+    by-room : (b : Bool) → ltb k m ≡ b → eqb v 0 ≡ allBelow m (clearAt t a)
+    by-room true b = let r : k < m = ltb-true k m b in q ∙ clear-past k m (omega arith) (omega arith)
+    by-room false b =
+        let r : m ≤ k = ltb-false k m b in
+        let s : k ≡ m = omega arith in
+        rw s at q
+
+pub ruleset clears = (clear-none, clear-on, clear-done, needs)
 
 -- ---- sections
 

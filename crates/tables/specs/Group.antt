@@ -3,7 +3,8 @@ use Prim.Native.Nat.{ℕ, zero, suc, _+_, _*_, _-_, _/_, _%_}
 use mathlib.Core.Bool.{cond}
 use lib.Dec.{eqb}
 use Rattle.cell.specs.Kind.{shapeOf}
-use Rattle.tables.specs.Form.{Tables, kind, place, x, y, wide, high, walk}
+use Rattle.tables.specs.Form.{Tables, kind, place, x, y, wide, high, walk, mask, first}
+use Rattle.tables.specs.declared.group.Storage.{Storage}
 
 -- "Requests name an element by object number, part and index": the group of an object's part (x 0, y 1, v 2)
 abbrev pub groupOf : ℕ → ℕ → ℕ
@@ -34,6 +35,24 @@ module _ (T : Tables) (g : ℕ) where
   -- the place of element i's first byte in the image
   unfoldable pub placeOf : ℕ → ℕ
   placeOf i = place T g + bytes * position (walk T g) (x T g) (wide T g) (high T g) i
+
+  -- how it is stored, in one
+  abbrev pub storageOf : Storage
+  storageOf = record {
+    kind = kind T g;
+    first = first T g;
+    place = place T g;
+    x = x T g;
+    y = y T g;
+    wide = wide T g;
+    high = high T g;
+    walk = walk T g;
+    mask = mask T g;
+  }
+
+-- the place of element i's first byte, of what is stored so
+abbrev pub placeBy : Storage → ℕ → ℕ
+placeBy s i = s .place + shapeOf (s .kind) .bytes * position (s .walk) (s .x) (s .wide) (s .high) i
 
 -- the list's line of group g's first element, and of its element i
 abbrev pub before : Tables → ℕ → ℕ

@@ -9,7 +9,7 @@ ghost use Prim.Native.Nat.{_/_, _%_, min};
 ghost use Rattle.number.specs.Told.{scaled};
 ghost use Rattle.cell.specs.Kind.{shapeOf};
 ghost use Rattle.tables.specs.Form.{tablesIn, pastPoints, pastImage, total, kind, first, place, x, y, wide, high, walk, methodOf, mask, forbidden, counter, counterPlace, limit};
-ghost use Rattle.tables.specs.Group.{position, elements, bytes, placeOf};
+ghost use Rattle.tables.specs.Group.{position, elements, bytes, placeOf, storageOf, placeBy};
 
 // One past "4,096 elements in all objects", and one past "1 MiB of image".
 const PAST_POINTS: u16 = 4097;
@@ -232,10 +232,47 @@ fn position_of(walk: u64, x: u16, wide: u16, high: u16, i: u32) -> u64
     b * (wide as u64) + a
 }
 
+// How a group is stored: its data type, byte order, first byte's place, points and room in x and y, walk and mask.
+pub struct Storage {
+    pub kind: u64,
+    pub first: bool,
+    pub place: u32,
+    pub x: u16,
+    pub y: u16,
+    pub wide: u16,
+    pub high: u16,
+    pub walk: u64,
+    pub mask: u64,
+}
+
+// How group g is stored, read once for all its elements.
+pub fn storage_of(t: &[u64], g: u16) -> Storage
+    ensures { λ r. ⌜ r ≡ storageOf (tablesIn (now (t .entry))) g ⌝ }
+{
+    Storage {
+        kind: kind_of(t, g),
+        first: is_first(t, g),
+        place: start_of(t, g),
+        x: x_of(t, g),
+        y: y_of(t, g),
+        wide: wide_of(t, g),
+        high: high_of(t, g),
+        walk: walk_of(t, g),
+        mask: mask_of(t, g),
+    }
+}
+
+// The place of the first byte of element i of what is stored so.
+pub fn place_by(s: Storage, i: u32) -> u64
+    ensures { λ r. ⌜ r ≡ placeBy s i ⌝ }
+{
+    let at = position_of(s.walk, s.x, s.wide, s.high, i);
+    (s.place as u64) + (type_bytes(s.kind) as u64) * at
+}
+
 // The place of element i's first byte in the image.
 pub fn place_of(t: &[u64], g: u16, i: u32) -> u64
     ensures { λ r. ⌜ r ≡ placeOf (tablesIn (now (t .entry))) g i ⌝ }
 {
-    let at = position_of(walk_of(t, g), x_of(t, g), wide_of(t, g), high_of(t, g), i);
-    (start_of(t, g) as u64) + (bytes_of(t, g) as u64) * at
+    place_by(storage_of(t, g), i)
 }

@@ -4,7 +4,7 @@ use crate::form::section_of;
 use crate::form::slot_of;
 use records::Section;
 ghost use mathlib.Core.Path.{_≡_};
-ghost use Prim.Native.Nat.{ℕ, _+_, _*_, _<_, _^_};
+ghost use Prim.Native.Nat.{ℕ, _+_, _-_, _*_, _<_, _^_, min};
 ghost use lib.Dec.{eqb};
 ghost use lib.ListN.{getD};
 ghost use Rattle.tables.specs.Form.{tablesIn};
@@ -30,24 +30,29 @@ pub fn has_zeros(t: &[u64], j: u8, i: u16, from: u8, many: u8) -> bool
     true
 }
 
-// Whether so many cells from a place on are zero; past the end there is none.
+// How many of so many cells from a place on there are, where there are n in all.
+fn cells_there(n: usize, from: usize, many: usize) -> usize
+    ensures { λ r. ⌜ r ≡ min (n - from) many ⌝ }
+{
+    if n < from {
+        return 0;
+    }
+    if n - from < many { n - from } else { many }
+}
+
+// Whether so many cells from a place on are zero; past the end there is none. All bits are gathered, with no test of each cell.
 fn are_zero(t: &[u64], from: usize, many: usize) -> bool
     requires { ⌜ from + many < 2 ^ 64 ⌝ }
     ensures { λ r. ⌜ r ≡ allBelow many (λ (k : ℕ). eqb (getD (now (t .entry)) (from + k) 0) 0) ⌝ }
 {
+    let there = cells_there(t.len(), from, many);
+    let mut bits: u64 = 0;
     let mut k: usize = 0;
-    while k < many {
-        let at = from + k;
-        if t.len() <= at {
-            return true;
-        }
-        if t[at] == 0 {
-            k += 1;
-        } else {
-            return false;
-        }
+    while k < there {
+        bits = bits | t[from + k];
+        k += 1;
     }
-    true
+    bits == 0
 }
 
 // Whether section j counts no more records than it may have.

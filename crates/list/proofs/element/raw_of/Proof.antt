@@ -1,15 +1,16 @@
--- `list::element::raw_of` meets its contract. Assumes nothing.
+use borrow.Author.Needs.{needs}
 use Rattle.list.proofs.element.raw_of.Statement.{statement}
 use Rattle.list.proofs.element.raw_of.Tie as tie
-use Rattle.list.proofs.ElementLaws.{elements}
+use Rattle.list.proofs.MeaningLaws.{meanings}
+
+storage-of-requires : tie.Need-storage-of-requires
+storage-of-requires c κs = search needs
+
+raw-by-requires : tie.Need-raw-by-requires
+raw-by-requires c κs = search needs
+
+returns : tie.Need-returns
+returns c = search meanings
 
 pub raw-of-spec : {M : Type 1} → statement M
-raw-of-spec =
-    tie.close
-    (tie.spec
-    (λ c κs. search elements)
-    (λ c κs. search elements)
-    (λ c κs. search elements)
-    (λ c κs. search elements)
-    (λ c κs. search elements)
-    (λ c. search elements))
+raw-of-spec = tie.close (tie.spec storage-of-requires raw-by-requires returns)

@@ -42,16 +42,16 @@ module _ (b w : ℕ) where
   unfolding rowFrom
   rowing-end i q h = let z : length rowCells - i ≡ 0 = omega (arith, row-count) in rw z at q
 
-  -- p and k are the row's block and word
-  module _ (i : ℕ) (q : Rowing b w i) (h : i < 45) (p k : ℕ) (pp : p ≡ rowCell i 0) (pk : k ≡ rowCell i 1) where
-    looked : cond (eqb p b && eqb k w) i (rowFrom (length rowCells - (i + 1)) (suc i) b w) ≡ rowOf b w
+  -- r says whether the row is that of the block and the word
+  module _ (i : ℕ) (q : Rowing b w i) (h : i < 45) (r : Bool) (pr : r ≡ (eqb (rowCell i 0) b && eqb (rowCell i 1) w)) where
+    looked : cond r i (rowFrom (length rowCells - (i + 1)) (suc i) b w) ≡ rowOf b w
     unfolding rowFrom
-    looked = let z : length rowCells - i ≡ suc (length rowCells - (i + 1)) = omega (arith, row-count) in rw (pp, pk) (rw z at q)
+    looked = let z : length rowCells - i ≡ suc (length rowCells - (i + 1)) = omega (arith, row-count) in rw pr (rw z at q)
 
-    pub rowing-found : (eqb p b && eqb k w) ≡ true → i ≡ rowOf b w
+    pub rowing-found : r ≡ true → i ≡ rowOf b w
     rowing-found t = rw t at looked
 
-    pub rowing-on : (eqb p b && eqb k w) ≡ false → Rowing b w (i + 1)
+    pub rowing-on : r ≡ false → Rowing b w (i + 1)
     rowing-on t = let z : suc i ≡ i + 1 = omega arith in rw (t, z) at looked
 
 pub ruleset rowings = (rowing-start, rowing-end, rowing-found, rowing-on, needs)

@@ -18,6 +18,7 @@ use crate::view::OBJECT;
 use crate::view::current_of;
 use rows::NEED_COUNT;
 use rows::ROW_COUNT;
+use rows::is_row;
 use rows::need_cell;
 use rows::row_cell;
 use text::cursor::Cursor;
@@ -51,7 +52,7 @@ fn row_of(b: u8, w: u8) -> u8
 {
     let mut i: u8 = 0;
     while i < ROW_COUNT {
-        if (row_cell(i, 0) == b) & (row_cell(i, 1) == w) {
+        if is_row(i, b, w) {
             return i;
         }
         i += 1;

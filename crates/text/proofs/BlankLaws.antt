@@ -2,14 +2,15 @@
 use Prim.Native.Nat.{ℕ, _+_, _-_, _≤_, _<_}
 use mathlib.Core.Path.{_≡_, refl, sym, _∙_, ap, subst}
 use mathlib.Core.List.{List}
-use mathlib.Core.Bool.{Bool, true, false, _||_}
+use mathlib.Core.Bool.{Bool, true, false, not, _&&_, _||_}
 use native.Mathlib.Omega.{arith}
 use borrow.Author.Needs.{needs}
-use borrow.Author.Tests.{eq-eqb, ne-eqb, le-leb, lt-leb, le-ltb}
+use borrow.Author.Tests.{eq-eqb, ne-eqb, eqb-false, leb-true, le-leb, lt-leb, le-ltb}
 use lib.ListN.{length}
+use lib.Dec.{leb, eqb}
 use Rattle.text.specs.Walk.{Step, on, done, over}
 use Rattle.text.specs.Answer.{Answer, given, refused, onTo, reached, gapStep}
-use Rattle.text.specs.Bytes.{byte, isBlank, pairAt}
+use Rattle.text.specs.Bytes.{byte, isBlank, isAllowed, pairAt}
 use Rattle.text.specs.Blank.{lineStep, lineEnd, closeStep, commentEnd, blankStep, blankAt, tokenEnds}
 use Rattle.text.specs.declared.cursor.Cursor.{Cursor}
 use Rattle.text.specs.declared.cursor.Reach.{Reach}
@@ -17,8 +18,8 @@ use Rattle.text.specs.declared.cursor.Reach.the-variants.{To, Refused}
 use Rattle.text.specs.declared.cursor.Gap.{Gap}
 use Rattle.text.specs.declared.cursor.Gap.the-variants as gap
 use Rattle.text.proofs.Walks.{Same, start, onto, stops, ends}
-use Rattle.text.proofs.ByteLaws.{via, byte-past}
-use Rattle.text.proofs.Within.{Goes, Blanks, blank-goes}
+use Rattle.text.proofs.ByteLaws.{via, byte-past, pair-other}
+use Rattle.text.proofs.Within.{and-left, and-right, Goes, Blanks, blank-goes}
 
 abbrev pub InLine : List ℕ → ℕ → ℕ → Type 0
 InLine s at i = Same ℕ (length s) (lineStep s) (λ k. k) at i
@@ -37,7 +38,37 @@ module _ (s : List ℕ) (at i : ℕ) (q : InLine s at i) where
 
 pub ruleset lines = (start, line-on, line-found, line-last, via, needs)
 
+not-true : (x : Bool) → not x ≡ true → x ≡ false
+not-true true e = sym e
+not-true false e = refl
+
+-- a byte that goes on a run whatever stands after it is no blank, no quote, and starts no comment
+module _ (b : ℕ) (t : (isAllowed b && not (eqb b 34) && not (eqb b 47)) ≡ true) where
+  inner-least : 33 ≤ b
+  unfolding isAllowed
+  inner-least = leb-true 33 b (and-left (leb 33 b) (leb b 126) (and-left (isAllowed b) (not (eqb b 34)) (and-left (isAllowed b && not (eqb b 34)) (not (eqb b 47)) t)))
+
+  other : (m : ℕ) → m ≤ 32 → eqb b m ≡ false
+  other m l = let n : b ≡ m → ⊥ = λ e. omega (arith, inner-least, e) in ne-eqb b m n
+
+  inner-blank : isBlank b ≡ false
+  unfolding isBlank
+  inner-blank = rw (other 32 (omega arith), other 9 (omega arith), other 13 (omega arith), other 10 (omega arith))
+
+  inner-quote : eqb b 34 ≡ false
+  inner-quote = not-true (eqb b 34) (and-right (isAllowed b) (not (eqb b 34)) (and-left (isAllowed b && not (eqb b 34)) (not (eqb b 47)) t))
+
+  inner-slash : b ≡ 47 → ⊥
+  inner-slash = eqb-false b 47 (not-true (eqb b 47) (and-right (isAllowed b && not (eqb b 34)) (not (eqb b 47)) t))
+
 module _ (s : List ℕ) (k : ℕ) where
+  pub ends-inner : k < length s → (isAllowed (byte s k) && not (eqb (byte s k) 34) && not (eqb (byte s k) 47)) ≡ true → false ≡ tokenEnds s k
+  unfolding tokenEnds
+  ends-inner h t =
+      let l : pairAt s k 47 47 ≡ false = sym (pair-other s k 47 47 (inner-slash (byte s k) t)) in
+      let c : pairAt s k 47 42 ≡ false = sym (pair-other s k 47 42 (inner-slash (byte s k) t)) in
+      rw (lt-leb (length s) k h, inner-blank (byte s k) t, inner-quote (byte s k) t, l, c)
+
   pub ends-last : length s ≤ k → true ≡ tokenEnds s k
   unfolding tokenEnds
   ends-last h = rw (le-leb (length s) k h)
@@ -54,7 +85,7 @@ module _ (s : List ℕ) (k : ℕ) where
   unfolding tokenEnds
   ends-comment p r h b q l c = rw (lt-leb (length s) k h, b, ne-eqb (byte s k) 34 q, l, c)
 
-pub ruleset token-ends = (ends-last, ends-blank, ends-quote, ends-comment, via, needs)
+pub ruleset token-ends = (ends-inner, ends-last, ends-blank, ends-quote, ends-comment, via, needs)
 
 abbrev pub InComment : List ℕ → ℕ → ℕ → Type 0
 InComment s at i = Same (Answer ℕ) (length s) (closeStep s) (λ k. refused 1 at) (at + 2) i
@@ -83,6 +114,12 @@ module _ (s : List ℕ) (k : ℕ) where
   unfolding isBlank pairAt
   gap-end h = rw (sym (byte-past s k h), le-ltb (k + 1) (length s) (omega arith))
 
+  pub gap-inner : (isAllowed (byte s k) && not (eqb (byte s k) 34) && not (eqb (byte s k) 47)) ≡ true → done (given k) ≡ blankStep s k
+  gap-inner t =
+      let l : pairAt s k 47 47 ≡ false = sym (pair-other s k 47 47 (inner-slash (byte s k) t)) in
+      let c : pairAt s k 47 42 ≡ false = sym (pair-other s k 47 42 (inner-slash (byte s k) t)) in
+      rw (inner-blank (byte s k) t, l, c)
+
   pub gap-blank : isBlank (byte s k) ≡ true → on (k + 1) ≡ blankStep s k
   gap-blank b = rw b
 
@@ -100,7 +137,7 @@ module _ (s : List ℕ) (k : ℕ) where
     pub gap-open : (n p : ℕ) → r ≡ Refused n p → done (refused n p) ≡ blankStep s k
     gap-open n p y = let z : commentEnd s k ≡ refused n p = sym x ∙ ap reached y in rw (b, l, c, z)
 
-pub ruleset gaps = (gap-end, gap-blank, gap-line, gap-none, gap-comment, gap-open, via, needs)
+pub ruleset gaps = (gap-end, gap-inner, gap-blank, gap-line, gap-none, gap-comment, gap-open, via, needs)
 
 abbrev pub InBlanks : List ℕ → ℕ → ℕ → Type 0
 InBlanks s at i = Same (Answer ℕ) (length s) (blankStep s) given at i

@@ -3,7 +3,7 @@ use Prim.Native.Nat.{ℕ, zero, suc, _+_, _-_, _<_, _≤_}
 use Prim.Native.Char.{code}
 use mathlib.Core.Path.{_≡_, refl, sym, _∙_, ap}
 use mathlib.Core.List.{List}
-use mathlib.Core.Bool.{Bool, true, false, _&&_, _||_}
+use mathlib.Core.Bool.{Bool, true, false, not, _&&_, _||_, and-false}
 use native.Mathlib.Omega.{arith}
 use native.Mathlib.Numerals.{add-one}
 use borrow.Author.Tests.{eq-eqb, ne-eqb, le-ltb, lt-ltb, le-leb, lt-leb}
@@ -61,11 +61,20 @@ module _ (s : List ℕ) (k a b : ℕ) where
   pub pair-past : length s ≤ k → false ≡ pairAt s k a b
   pair-past h = pair-short (omega arith)
 
-  pub pair-inside : k + 1 < length s → (eqb (byte s k) a && eqb (byte s (k + 1)) b) ≡ pairAt s k a b
+  pub pair-other : (byte s k ≡ a → ⊥) → false ≡ pairAt s k a b
   unfolding pairAt
-  pair-inside h = rw (lt-ltb (k + 1) (length s) h)
+  pair-other p = rw (ne-eqb (byte s k) a p, and-false (ltb (k + 1) (length s)))
 
-pub ruleset pairs = (pair-past, pair-short, pair-inside, needs)
+  pub pair-next : k + 1 < length s → byte s k ≡ a → eqb (byte s (k + 1)) b ≡ pairAt s k a b
+  unfolding pairAt
+  pair-next h p = rw (lt-ltb (k + 1) (length s) h, eq-eqb (byte s k) a p)
+
+pub ruleset pairs = (pair-past, pair-short, pair-other, pair-next, needs)
+
+pub inner-is : (b : ℕ) (r : Bool) → r ≡ isAllowed b → (r && not (eqb b 34) && not (eqb b 47)) ≡ (isAllowed b && not (eqb b 34) && not (eqb b 47))
+inner-is b r p = rw p
+
+pub ruleset inners = (inner-is, needs)
 
 -- the loop of `same_part`: the n bytes are the same exactly if those from i on are
 pub record SameFrom (s : List ℕ) (k : ℕ) (w : List ℕ) (j n i : ℕ) : Type 0 where

@@ -1,5 +1,6 @@
 // Blanks and comments.
 use crate::bytes::is_blank;
+use crate::bytes::is_inner;
 use crate::bytes::pair_at;
 use crate::cursor::Cursor;
 use crate::cursor::Gap;
@@ -30,6 +31,9 @@ pub fn token_ends(s: &[u8], at: usize) -> bool
         return true;
     }
     let b = s[at];
+    if is_inner(b) {
+        return false;
+    }
     if is_blank(b) {
         return true;
     }
@@ -66,7 +70,11 @@ impl Cursor {
         if s.len() <= at {
             return Gap::Nothing;
         }
-        if is_blank(s[at]) {
+        let b = s[at];
+        if is_inner(b) {
+            return Gap::Nothing;
+        }
+        if is_blank(b) {
             return Gap::Past(Cursor { at: at + 1 });
         }
         if pair_at(s, at, b'/', b'/') {

@@ -1,6 +1,8 @@
 // Bytes of a text: single ones, two side by side, and a part that spells a word.
 ghost use mathlib.Core.Path.{_≡_};
+ghost use mathlib.Core.Bool.{_&&_, not};
 ghost use Prim.Native.Nat.{_+_, _<_, _^_};
+ghost use lib.Dec.{eqb};
 ghost use Rattle.text.specs.Bytes.{byte, isBlank, isAllowed, isLetter, isDigit, startsName, inName, startsNumber, pairAt, sameFor, samePart};
 
 // The byte at a place, 0 past the end.
@@ -22,6 +24,13 @@ pub fn is_allowed(b: u8) -> bool
     ensures { λ r. ⌜ r ≡ isAllowed b ⌝ }
 {
     (33 <= b) & (b <= 126)
+}
+
+// Whether a byte goes on a run whatever stands after it.
+pub fn is_inner(b: u8) -> bool
+    ensures { λ r. ⌜ r ≡ (isAllowed b && not (eqb b 34) && not (eqb b 47)) ⌝ }
+{
+    is_allowed(b) & (b != b'"') & (b != b'/')
 }
 
 // Whether a byte is a letter.
@@ -66,11 +75,14 @@ pub fn pair_at(s: &[u8], at: usize, a: u8, b: u8) -> bool
     if s.len() <= at {
         return false;
     }
+    if s[at] != a {
+        return false;
+    }
     let next = at + 1;
     if s.len() <= next {
         return false;
     }
-    (s[at] == a) & (s[next] == b)
+    s[next] == b
 }
 
 // Whether n bytes of s from k on are those of w from j on.

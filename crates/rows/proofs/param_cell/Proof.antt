@@ -1,15 +1,6 @@
-use borrow.Author.Needs.{needs}
-use mathlib.Core.Path.{refl}
-use Rattle.rows.specs.Rows.{paramCell, paramCells, rows}
 use Rattle.rows.proofs.param_cell.Statement.{statement}
 use Rattle.rows.proofs.param_cell.Tie as tie
 use Rattle.rows.proofs.TableLaws.{tables}
 
--- src/rows.rt:190:13
-returns : tie.Need-returns
-unfolding paramCell paramCells rows
-returns c = refl
-
 pub param-cell-spec : {M : Type 1} → statement M
-param-cell-spec =
-    tie.close (tie.spec (λ c. search tables) (λ c. search tables) (λ c. search tables) returns (λ c. search tables) (λ c. search tables))
+param-cell-spec = tie.close (tie.spec (λ c κs. search tables) (λ c. search tables) (λ c. search tables) (λ c. search tables))

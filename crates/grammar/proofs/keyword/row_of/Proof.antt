@@ -17,7 +17,6 @@ row-of-spec =
     μ-loop
     (λ c. search rowings)
     (λ c κs. search rowings)
-    (λ c κs. search rowings)
     (λ c. search rowings)
     (λ c. search rowings)
     (λ c. search rowings)

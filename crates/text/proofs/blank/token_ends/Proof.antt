@@ -11,6 +11,8 @@ token-ends-spec =
     (λ c. search token-ends)
     (λ c κs. search token-ends)
     (λ c. search token-ends)
+    (λ c κs. search token-ends)
+    (λ c. search token-ends)
     (λ c. search token-ends)
     (λ c κs. search token-ends)
     (λ c κs. search token-ends)

@@ -11,6 +11,8 @@ gap-spec =
     (λ c. search gaps)
     (λ c κs. search gaps)
     (λ c. search gaps)
+    (λ c κs. search gaps)
+    (λ c. search gaps)
     (λ c. search gaps)
     (λ c κs. search gaps)
     (λ c. search gaps)

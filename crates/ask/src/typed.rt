@@ -9,7 +9,7 @@ ghost use Rattle.ask.specs.Typed.{partOf, mostOf, signedOf, rawTyped};
 ghost use Rattle.ask.specs.Told.{toldTyped};
 use number::digits::NO_FORM;
 use number::whole::WholeAnswer;
-use number::whole::whole_of;
+use runs::whole::whole_of;
 
 // The letters of the parts, and what any other word is.
 const LETTER_X: u8 = 120;

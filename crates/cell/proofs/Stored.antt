@@ -55,6 +55,9 @@ storing first p w (suc k) m s = storing first p w k (m / 256) (set s (placeOf (n
 drop-set : (j b : ℕ) (s : List ℕ) → j < length s → drop j (set s j b) ≡ b ∷ drop (suc j) s
 drop-set j b s h = rw (set-split s j b h) (drop-at (take j s) (b ∷ drop (suc j) s) j (simp length-take (omega arith)))
 
+last-step : (q n b : ℕ) (l s : List ℕ) → q < length s → q < n → take (suc q) (set s q b) ++ l ++ drop n (set s q b) ≡ take q s ++ (b ∷ l) ++ drop n s
+last-step q n b l s h k = rw (take-suc-set s q b h, drop-set-lt n s q b k) (simp append-assoc)
+
 last-stores : (p w k m : ℕ) (s : List ℕ) → k ≤ w → p + w ≤ length s
     → storing false p w k m s ≡ take (p + (w - k)) s ++ digits k m ++ drop (p + w) s
 unfolding storing digits
@@ -63,10 +66,11 @@ last-stores p w zero m s h l =
     rw (e, append-nil) (sym (take-append-drop (p + w) s))
 last-stores p w (suc k) m s h l =
     let e : p + (w - k) ≡ suc (p + (w - suc k)) = omega arith in
-    let i : p + (w - suc k) < length s = omega arith in
-    let j : p + (w - suc k) < p + w = omega arith in
     last-stores p w k (m / 256) (set s (p + (w - suc k)) (m % 256)) (omega arith) (simp length-set l)
-    ∙ rw (e, take-suc-set, drop-set-lt) (simp append-assoc)
+    ∙ rw e (last-step (p + (w - suc k)) (p + w) (m % 256) (digits k (m / 256)) s (omega arith) (omega arith))
+
+first-step : (p j b : ℕ) (l s : List ℕ) → j < length s → p ≤ j → take p (set s j b) ++ reverse l ++ drop j (set s j b) ≡ take p s ++ reverse (b ∷ l) ++ drop (suc j) s
+first-step p j b l s h k = rw (take-set-le p s j b k, drop-set j b s h, reverseAux-eq l (b ∷ [])) (simp append-assoc)
 
 first-stores : (p w k m : ℕ) (s : List ℕ) → k ≤ w → p + w ≤ length s
     → storing true p w k m s ≡ take p s ++ reverse (digits k m) ++ drop (p + k) s
@@ -74,11 +78,9 @@ unfolding storing digits
 first-stores p w zero m s h l = rw (add-zero, append-nil) (sym (take-append-drop p s))
 first-stores p w (suc k) m s h l =
     let e : p + (w - 1 - (w - suc k)) ≡ p + k = omega arith in
-    let i : p + k < length s = omega arith in
-    let j : p ≤ p + k = omega arith in
     let n : p + suc k ≡ suc (p + k) = omega arith in
     rw e (first-stores p w k (m / 256) (set s (p + k) (m % 256)) (omega arith) (simp length-set l)
-    ∙ rw (take-set-le, drop-set (p + k) (m % 256) s i, n, reverseAux-eq (digits k (m / 256)) (m % 256 ∷ [])) (simp append-assoc))
+    ∙ rw n (first-step p (p + k) (m % 256) (digits k (m / 256)) s (omega arith) (omega arith)))
 
 pub stores : (first : Bool) (p w n : ℕ) (s : List ℕ) → p + w ≤ length s → storing first p w w n s ≡ withStored first p w n s
 stores true p w n s h = first-stores p w w n s (omega arith) h

@@ -3,7 +3,7 @@ use crate::message::error_about;
 use crate::sizes::WORD_ROOM;
 use crate::sizes::front;
 use number::whole::WholeAnswer;
-use number::whole::whole_of;
+use runs::whole::whole_of;
 
 // Where each argument stands.
 pub const DESCRIPTION: usize = 2;

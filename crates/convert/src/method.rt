@@ -3,19 +3,22 @@ ghost use mathlib.Core.Path.{_≡_};
 ghost use mathlib.Core.Bool.{true};
 ghost use Prim.Native.Nat.{_≤_};
 ghost use Rattle.number.specs.Told.{scaled};
-ghost use Rattle.convert.specs.Whole.{Small};
+ghost use Rattle.convert.specs.Whole.{Small, allSmall};
 ghost use Rattle.convert.specs.Limit.{formed};
 ghost use Rattle.convert.specs.Method.{timesTen, sameProducts, sound, judged, ratFunc, linearOf, identicalOf};
 ghost use Rattle.convert.specs.Told.{toldMethod};
-use crate::whole::all_small;
 use crate::whole::is_formed;
 use crate::whole::larger;
 use crate::whole::ten;
 use crate::whole::times_ten;
+use cell::size::size;
 use number::decimal::Decimal;
 
 // "b·f = c·e, or one of the four above 10^9"
 pub const NO_CONVERSION: u8 = 10;
+
+// "Each of the four is at most 10^9 in size."
+const MOST_COEFFICIENT: u64 = 1000000000;
 
 // b, c, e and f of RAT_FUNC, made whole.
 pub struct Coefficients {
@@ -28,6 +31,16 @@ pub struct Coefficients {
 pub enum MethodAnswer {
     Whole(Coefficients),
     Refused { no: u8 },
+}
+
+// Whether each of the four is at most 10^9 in size.
+pub fn all_small(k: Coefficients) -> bool
+    ensures { λ r. ⌜ r ≡ allSmall k ⌝ }
+{
+    (size(k.b) <= MOST_COEFFICIENT)
+        & (size(k.c) <= MOST_COEFFICIENT)
+        & (size(k.e) <= MOST_COEFFICIENT)
+        & (size(k.f) <= MOST_COEFFICIENT)
 }
 
 // Whether b·f = c·e.

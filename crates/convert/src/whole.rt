@@ -1,20 +1,15 @@
-// What the conversions rest on: signs, powers of ten, and tests on decimals and coefficients.
+// What the conversions rest on: signs, powers of ten, and tests on decimals.
 ghost use mathlib.Core.Path.{_≡_};
 ghost use Prim.Native.Nat.{_≤_, _<_, _*_, _^_, max};
 ghost use Rattle.number.specs.Told.{scaled};
-ghost use Rattle.convert.specs.Whole.{signedOf, allSmall};
+ghost use Rattle.convert.specs.Whole.{signedOf};
 ghost use Rattle.convert.specs.Limit.{formed};
-use crate::method::Coefficients;
-use cell::size::size;
 use number::decimal::Decimal;
 
 // The most that ten digits write, and the most digits after the point.
 const MOST_WHOLE: u64 = 9999999999;
 
 const MOST_TENS: u32 = 6;
-
-// "Each of the four is at most 10^9 in size."
-const MOST_COEFFICIENT: u64 = 1000000000;
 
 // The number of a size, with or without a minus.
 pub fn with_sign(negative: bool, n: u64) -> i64
@@ -67,14 +62,4 @@ pub fn times_ten(d: Decimal, tens: u32) -> i64
     ensures { λ r. ⌜ r ≡ signedOf (d .negative) (d .whole * 10 ^ tens) ⌝ }
 {
     with_sign(d.negative, d.whole * ten(tens))
-}
-
-// Whether each of the four is at most 10^9 in size.
-pub fn all_small(k: Coefficients) -> bool
-    ensures { λ r. ⌜ r ≡ allSmall k ⌝ }
-{
-    (size(k.b) <= MOST_COEFFICIENT)
-        & (size(k.c) <= MOST_COEFFICIENT)
-        & (size(k.e) <= MOST_COEFFICIENT)
-        & (size(k.f) <= MOST_COEFFICIENT)
 }

@@ -92,7 +92,7 @@ pub fn refuse(no: u8, x: &[u8], k: u8, a: usize, e: usize) -> Move
     ensures { λ r. ⌜ moved r ≡ wrong «no» (now (x .entry)) k a e ⌝ }
 {
     if k == NUMBER {
-        if number::form::has_form(x, a, e) {
+        if runs::form::has_form(x, a, e) {
             return Move::Refused { no, place: a };
         }
         return Move::Refused { no: 2, place: a };
@@ -279,7 +279,7 @@ fn taken_decimal(t: &[u64], s: State, a: usize, e: usize, d: Decimal) -> Move
 fn pairs_of(x: &[u8], s: State, a: usize, e: usize) -> Move
     ensures { λ r. ⌜ moved r ≡ ofPairs (now (x .entry)) s a e ⌝ }
 {
-    match number::whole::whole_in(x, a, e, limit_cell(s.param, 1)) {
+    match runs::whole::whole_in(x, a, e, limit_cell(s.param, 1)) {
         WholeAnswer::Number(n) => taken_pairs(s, e, n),
         WholeAnswer::Refused { no } => Move::Refused { no, place: a },
     }
@@ -289,7 +289,7 @@ fn pairs_of(x: &[u8], s: State, a: usize, e: usize) -> Move
 fn whole_of(x: &[u8], s: State, a: usize, e: usize) -> Move
     ensures { λ r. ⌜ moved r ≡ ofWhole (now (x .entry)) s a e ⌝ }
 {
-    match number::whole::whole_in(x, a, e, limit_cell(s.param, 1)) {
+    match runs::whole::whole_in(x, a, e, limit_cell(s.param, 1)) {
         WholeAnswer::Number(n) => taken_whole(s, a, e, n),
         WholeAnswer::Refused { no } => Move::Refused { no, place: a },
     }

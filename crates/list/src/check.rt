@@ -1,10 +1,10 @@
 // What calls test first: the lent sizes, the table rule, the element.
 use crate::element::record_of;
+use rule::rule::keeps_rule;
 use tables::form::OBJECT;
 use tables::form::PARTS;
 use tables::form::count_of;
 use tables::group::elements_of;
-use tables::rule::keeps_rule;
 use tables::sizes::sizes_fit;
 ghost use mathlib.Core.Path.{_≡_};
 ghost use Prim.Native.Nat.{min};

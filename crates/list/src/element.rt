@@ -1,12 +1,12 @@
 // One element: its raw number, and the texts of verbal tables.
 use cell::raw::read_raw;
 use convert::fraction::Physical;
-use convert::verbal::text_of;
 use tables::form::TABLE;
 use tables::form::slot_of;
 use tables::group::Storage;
 use tables::group::place_by;
 use tables::group::storage_of;
+use verbal::text::text_of;
 ghost use mathlib.Core.Path.{_≡_};
 ghost use Prim.Native.Nat.{_-_, min};
 ghost use Rattle.convert.specs.Told.{held};

@@ -7,7 +7,7 @@ use crate::element::raw_of;
 use crate::meaning::means;
 use convert::fraction::Physical;
 use convert::fraction::Shown;
-use convert::fraction::shown_of;
+use fraction::fraction::shown_of;
 ghost use mathlib.Core.Path.{_≡_};
 ghost use lib.ListN.{length};
 ghost use Rattle.number.specs.Answer.{given};

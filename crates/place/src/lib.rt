@@ -1,6 +1,4 @@
-// Where an object's parts stand, and whether it may: layouts, alignment, stored counts, the image's end.
-mod align;
-mod inside;
+// Where an object's parts stand: the types, the order of Position and the rules of place. The crate `judge` places and judges.
 pub mod judge;
 pub mod order;
 pub mod rules;

@@ -1,10 +1,5 @@
-// The lent tables: their form, groups and addressing, and the table rule.
-mod conversion;
+// The lent tables: their form, groups and addressing. The crate `rule` has the table rule.
 pub mod form;
 pub mod group;
 pub mod method;
-mod part;
-pub mod rule;
 pub mod sizes;
-mod test;
-mod unused;

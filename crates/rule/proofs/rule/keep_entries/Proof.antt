@@ -1,0 +1,29 @@
+use Rattle.rule.proofs.rule.keep_entries.Statement.{statement}
+use Rattle.rule.proofs.rule.keep_entries.Tie as tie
+use Prim.Native.Nat.{_≤_, _-_}
+use mathlib.Core.Path.{_≡_}
+use mathlib.Core.Bool.{true}
+use Rattle.tables.specs.Form.{tablesIn}
+use Rattle.tables.specs.Rule.{allBelow, entryRule}
+use Rattle.tables.proofs.LoopLaws.{turns}
+
+abbrev Inv-loop : tie.InvT-loop
+Inv-loop t n count i₀ i = (i ≤ count) × (allBelow i (entryRule (tablesIn t) n) ≡ true)
+
+abbrev μ-loop : tie.MeasureT-loop
+μ-loop t n count i₀ i = count - i
+
+pub keep-entries-spec : {M : Type 1} → statement M
+keep-entries-spec =
+    tie.close
+    (tie.spec
+    Inv-loop
+    μ-loop
+    (λ c κs. search turns)
+    (λ c. search turns)
+    (λ c κs. search turns)
+    (λ c. search turns)
+    (λ c. search turns)
+    (λ c. search turns)
+    (λ c. search turns)
+    (λ c. search turns))

@@ -1,0 +1,29 @@
+use Rattle.rule.proofs.rule.keep_objects.Statement.{statement}
+use Rattle.rule.proofs.rule.keep_objects.Tie as tie
+use Prim.Native.Nat.{_≤_, _-_}
+use mathlib.Core.Path.{_≡_}
+use mathlib.Core.Bool.{true}
+use Rattle.tables.specs.Form.{tablesIn}
+use Rattle.tables.specs.Rule.{allBelow, objectRule}
+use Rattle.tables.proofs.LoopLaws.{turns}
+
+abbrev Inv-loop : tie.InvT-loop
+Inv-loop t n count i₀ i = (i ≤ count) × (allBelow i (objectRule (tablesIn t) n) ≡ true)
+
+abbrev μ-loop : tie.MeasureT-loop
+μ-loop t n count i₀ i = count - i
+
+pub keep-objects-spec : {M : Type 1} → statement M
+keep-objects-spec =
+    tie.close
+    (tie.spec
+    Inv-loop
+    μ-loop
+    (λ c κs. search turns)
+    (λ c. search turns)
+    (λ c κs. search turns)
+    (λ c. search turns)
+    (λ c. search turns)
+    (λ c. search turns)
+    (λ c. search turns)
+    (λ c. search turns))

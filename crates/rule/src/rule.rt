@@ -1,0 +1,175 @@
+// The table rule.
+use crate::conversion::keeps_entry;
+use crate::conversion::keeps_method;
+use crate::conversion::keeps_table;
+use crate::part::keeps_group;
+use crate::test::is_object;
+use crate::test::is_text;
+use crate::unused::keeps_form;
+use tables::form::ENTRY;
+use tables::form::GROUP;
+use tables::form::HEAD;
+use tables::form::METHOD;
+use tables::form::OBJECT;
+use tables::form::PARTS;
+use tables::form::TABLE;
+use tables::form::count_of;
+use tables::form::slot_of;
+use tables::group::elements_of;
+use tables::group::total_of;
+ghost use mathlib.Core.Path.{_≡_};
+ghost use Prim.Native.Nat.{ℕ};
+ghost use Rattle.tables.specs.Form.{tablesIn, object, group, method, table, entry};
+ghost use Rattle.tables.specs.Group.{sumBelow, elements};
+ghost use Rattle.tables.specs.Rule.{allBelow, objectRule, groupRule, methodRule, tableRule, entryRule, headRule, ruled, keepsRule};
+
+// "4,096 elements in all objects"
+const MOST_ELEMENTS: u64 = 4096;
+
+// Whether object i has its name inside the description and is what an object can be.
+fn keeps_object(t: &[u64], n: usize, i: u16) -> bool
+    ensures { λ r. ⌜ r ≡ objectRule (tablesIn (now (t .entry))) n i ⌝ }
+{
+    let first = slot_of(t, OBJECT, i, 0);
+    let past = slot_of(t, OBJECT, i, 1);
+    let kind = slot_of(t, OBJECT, i, 2);
+    let text = is_text(n, first, past);
+    text & is_object(kind)
+}
+
+// Whether every object keeps the rule.
+fn keep_objects(t: &[u64], n: usize) -> bool
+    ensures { λ r. ⌜ r ≡ allBelow (tablesIn (now (t .entry)) .counts object) (objectRule (tablesIn (now (t .entry))) n) ⌝ }
+{
+    let count = count_of(t, OBJECT);
+    let mut i: u16 = 0;
+    while i < count {
+        if keeps_object(t, n, i) {
+            i += 1;
+        } else {
+            return false;
+        }
+    }
+    true
+}
+
+// Whether every group keeps the rule.
+fn keep_groups(t: &[u64], m: usize) -> bool
+    ensures { λ r. ⌜ r ≡ allBelow (tablesIn (now (t .entry)) .counts group) (λ (g : ℕ). groupRule (tablesIn (now (t .entry))) g m) ⌝ }
+{
+    let count = count_of(t, GROUP);
+    let mut g: u16 = 0;
+    while g < count {
+        if keeps_group(t, g, m) {
+            g += 1;
+        } else {
+            return false;
+        }
+    }
+    true
+}
+
+// Whether every method keeps the rule.
+fn keep_methods(t: &[u64]) -> bool
+    ensures { λ r. ⌜ r ≡ allBelow (tablesIn (now (t .entry)) .counts method) (methodRule (tablesIn (now (t .entry)))) ⌝ }
+{
+    let count = count_of(t, METHOD);
+    let mut i: u16 = 0;
+    while i < count {
+        if keeps_method(t, i) {
+            i += 1;
+        } else {
+            return false;
+        }
+    }
+    true
+}
+
+// Whether every verbal table keeps the rule.
+fn keep_tables(t: &[u64], n: usize) -> bool
+    ensures { λ r. ⌜ r ≡ allBelow (tablesIn (now (t .entry)) .counts table) (tableRule (tablesIn (now (t .entry))) n) ⌝ }
+{
+    let count = count_of(t, TABLE);
+    let mut i: u16 = 0;
+    while i < count {
+        if keeps_table(t, n, i) {
+            i += 1;
+        } else {
+            return false;
+        }
+    }
+    true
+}
+
+// Whether every entry keeps the rule.
+fn keep_entries(t: &[u64], n: usize) -> bool
+    ensures { λ r. ⌜ r ≡ allBelow (tablesIn (now (t .entry)) .counts entry) (entryRule (tablesIn (now (t .entry))) n) ⌝ }
+{
+    let count = count_of(t, ENTRY);
+    let mut i: u16 = 0;
+    while i < count {
+        if keeps_entry(t, n, i) {
+            i += 1;
+        } else {
+            return false;
+        }
+    }
+    true
+}
+
+// How many elements all groups have.
+fn sum_of(t: &[u64]) -> u64
+    ensures { λ r. ⌜ r ≡ sumBelow (tablesIn (now (t .entry)) .counts group) (elements (tablesIn (now (t .entry)))) ⌝ }
+{
+    let count = count_of(t, GROUP);
+    let mut sum: u64 = 0;
+    let mut g: u16 = 0;
+    while g < count {
+        sum += elements_of(t, g) as u64;
+        g += 1;
+    }
+    sum
+}
+
+// Whether the head says how many elements there are, and there are not too many.
+fn keeps_head(t: &[u64]) -> bool
+    ensures { λ r. ⌜ r ≡ headRule (tablesIn (now (t .entry))) ⌝ }
+{
+    let heads = count_of(t, HEAD);
+    let edition = slot_of(t, HEAD, 0, 0);
+    let mark = slot_of(t, HEAD, 0, 1);
+    let total = total_of(t);
+    let sum = sum_of(t);
+    let groups = count_of(t, GROUP);
+    let objects = count_of(t, OBJECT);
+    let parts = (objects as u32) * (PARTS as u32);
+    (heads == 1)
+        & (edition == 0)
+        & (mark == 0)
+        & (total == sum)
+        & (total <= MOST_ELEMENTS)
+        & ((groups as u32) == parts)
+}
+
+// Whether the records keep the rule.
+fn is_ruled(t: &[u64], n: usize, m: usize) -> bool
+    ensures { λ r. ⌜ r ≡ ruled (tablesIn (now (t .entry))) n m ⌝ }
+{
+    let head = keeps_head(t);
+    let objects = keep_objects(t, n);
+    let groups = keep_groups(t, m);
+    let methods = keep_methods(t);
+    let tables = keep_tables(t, n);
+    let entries = keep_entries(t, n);
+    head & objects & groups & methods & tables & entries
+}
+
+// Whether the cells keep the table rule, for n bytes of description and m of image.
+pub fn keeps_rule(t: &[u64], n: usize, m: usize) -> bool
+    ensures { λ r. ⌜ r ≡ keepsRule n m (now (t .entry)) ⌝ }
+{
+    if keeps_form(t) {
+        return is_ruled(t, n, m);
+    }
+    false
+}

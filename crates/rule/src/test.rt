@@ -1,0 +1,68 @@
+// The single tests of the table rule.
+ghost use mathlib.Core.Path.{_≡_};
+ghost use Prim.Native.Nat.{_+_};
+ghost use lib.Dec.{leb};
+ghost use Rattle.tables.specs.Rule.{isObject, isFraction, isType, textRule, insideRule};
+
+// The words' codes: AXIS_PTS, MEASUREMENT, VALUE to MAP, IDENTICAL to RAT_FUNC.
+const AXIS_PTS: u64 = 7;
+
+const MEASUREMENT: u64 = 10;
+
+const VALUE: u64 = 15;
+
+const MAP: u64 = 18;
+
+const IDENTICAL: u64 = 19;
+
+const RAT_FUNC: u64 = 21;
+
+// The first and the last data type.
+const UBYTE: u64 = 1;
+
+const SLONG: u64 = 6;
+
+// Whether a code is an object's.
+pub fn is_object(k: u64) -> bool
+    ensures { λ r. ⌜ r ≡ isObject k ⌝ }
+{
+    (k == AXIS_PTS) | (k == MEASUREMENT) | ((VALUE <= k) & (k <= MAP))
+}
+
+// Whether a code is that of a conversion with coefficients.
+pub fn is_fraction(k: u64) -> bool
+    ensures { λ r. ⌜ r ≡ isFraction k ⌝ }
+{
+    (IDENTICAL <= k) & (k <= RAT_FUNC)
+}
+
+// Whether a code is a data type's.
+pub fn is_type(k: u64) -> bool
+    ensures { λ r. ⌜ r ≡ isType k ⌝ }
+{
+    (UBYTE <= k) & (k <= SLONG)
+}
+
+// Whether a text's places are inside a description of n bytes.
+pub fn is_text(n: usize, from: u64, past: u64) -> bool
+    ensures { λ r. ⌜ r ≡ textRule n from past ⌝ }
+{
+    (from <= past) & (past <= (n as u64))
+}
+
+// Whether so many bytes from a place on are inside an image of m bytes.
+pub fn is_inside(m: usize, at: u32, many: u32) -> bool
+    ensures { λ r. ⌜ r ≡ insideRule m at many ⌝ }
+{
+    (at as u64) + (many as u64) <= (m as u64)
+}
+
+// Whether a sum is at most a number.
+pub fn is_sum_within(a: u64, b: u64, most: u64) -> bool
+    ensures { λ r. ⌜ r ≡ leb (a + b) most ⌝ }
+{
+    if a <= most {
+        return b <= most - a;
+    }
+    false
+}

@@ -1,0 +1,2 @@
+// Verbal tables: the text of a raw number.
+pub mod text;

@@ -43,7 +43,7 @@ fn state_at(column: &[u8], k: usize) -> u8
 }
 
 // Puts the line of element i of group g, which is line k of the list.
-pub fn put_element(
+pub(crate) fn put_element(
     out: &mut [u8],
     at: usize,
     x: &[u8],

@@ -75,6 +75,14 @@ pub enum ObjectKind {
     Map = 18,
 }
 
+impl ObjectKind {
+    /// The kind of object with a table's code.
+    pub fn from_code(code: u64) -> Option<ObjectKind> {
+        use ObjectKind::*;
+        [AxisPts, Measurement, Value, ValBlk, Curve, Map].into_iter().find(|&it| it as u64 == code)
+    }
+}
+
 /// A lower and an upper limit.
 #[derive(Clone, Copy, Debug)]
 pub struct Limits {

@@ -215,7 +215,11 @@ fn group_fits(group: &[u64], part: usize, methods: u64, image_len: usize) -> boo
         return false;
     };
     let (x, y) = (group[3], group[4]);
-    if group[1] > 1 || x > 4096 || y > 4096 || group[5] != x || group[6] != y {
+    if group[1] > 1 || group[5] != x || group[6] != y {
+        return false;
+    }
+    // A stored part has at least one point in x and in y.
+    if !(1..=MOST_ELEMENTS).contains(&x) || !(1..=MOST_ELEMENTS).contains(&y) {
         return false;
     }
     if !ends_inside(group[2], data_type.bytes() * x * y, image_len) {
@@ -237,13 +241,42 @@ fn group_fits(group: &[u64], part: usize, methods: u64, image_len: usize) -> boo
     }
 }
 
+/// Tells whether an object has the parts that its kind needs and no part that its kind has not:
+/// AXIS_PTS x alone; VALUE, VAL_BLK and MEASUREMENT values alone; CURVE values, and x where it is
+/// stored; MAP values, and x and y where they are stored.
+fn parts_fit(kind: ObjectKind, parts: [&[u64]; 3]) -> bool {
+    let [x, y, values] = parts.map(|part| part[0] != 0);
+    let (points, rows, mark) = (parts[2][3], parts[2][4], parts[2][10]);
+    match kind {
+        ObjectKind::AxisPts => x && !y && !values,
+        ObjectKind::Value => values && !x && !y && points == 1 && rows == 1,
+        // Its values are marked as not to be written.
+        ObjectKind::Measurement => values && !x && !y && points == 1 && rows == 1 && mark == 1,
+        ObjectKind::ValBlk => values && !x && !y && rows == 1,
+        ObjectKind::Curve => values && !y && rows == 1,
+        ObjectKind::Map => values,
+    }
+}
+
+/// Tells whether four numbers are such as a kind of conversion can have.
+fn factors_fit(kind: u64, factors: Factors) -> bool {
+    let Factors { b, c, e, f } = factors;
+    let kind_fits = match kind {
+        KIND_IDENTICAL => [b, c, e, f] == [1, 0, 0, 1],
+        KIND_LINEAR => (0..=6).any(|power| b == 10i128.pow(power)) && e == 0,
+        KIND_RAT_FUNC => true,
+        _ => false,
+    };
+    kind_fits && factors.allowed()
+}
+
 /// Tells whether a method's record keeps the rule.
 fn method_fits(method: &[u64], tables: u64) -> bool {
     if method[0] == KIND_TAB_VERB {
         return method[1..9].iter().all(|&cell| cell == 0) && method[9] >= 1 && method[9] <= tables;
     }
     let signs = [1, 3, 5, 7].iter().all(|&cell| method[cell] <= 1);
-    (KIND_IDENTICAL..KIND_TAB_VERB).contains(&method[0]) && signs && factors_of(method).allowed() && method[9] == 0
+    signs && factors_fit(method[0], factors_of(method)) && method[9] == 0
 }
 
 /// Tells whether tables keep the table rule with a description and an image.
@@ -265,7 +298,9 @@ pub fn keeps_rule(cells: &[u64], text_len: usize, image_len: usize) -> bool {
     }
     for number in 0..cells[OBJECTS] as usize {
         let object = record(cells, OBJECTS, OBJECT_WIDTH, number);
-        if !text_places(object[0], object[1], text_len) || !matches!(object[2], 7 | 10 | 15..=18) {
+        let parts = [0, 1, 2].map(|part| record(cells, GROUPS, GROUP_WIDTH, 3 * number + part));
+        let kind_fits = ObjectKind::from_code(object[2]).is_some_and(|kind| parts_fit(kind, parts));
+        if !text_places(object[0], object[1], text_len) || !kind_fits {
             return false;
         }
     }

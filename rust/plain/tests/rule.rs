@@ -83,6 +83,7 @@ fn every_clause_of_the_rule() {
         (OBJECTS, u64::MAX),
         (OBJECTS + 1, text_len),
         (OBJECTS + 2, text_len + 1),
+        (OBJECTS + 3, 7),
         (OBJECTS + 3, 8),
         (OBJECTS + 3, 19),
         (OBJECTS + 1 + 12, 1),
@@ -127,6 +128,8 @@ fn every_clause_of_the_rule() {
         (METHODS, 1),
         (METHODS, 129),
         (method, 18),
+        (method, 19),
+        (method, 20),
         (method, 22),
         (method, 23),
         (method + 1, 2),
@@ -159,7 +162,6 @@ fn every_clause_of_the_rule() {
         assert!(!keeps(cell, value), "cell {cell} value {value}");
     }
     let holds = [
-        (OBJECTS + 3, 7),
         (group(0, 1), 1),
         (group(0, 2), image_len - 6),
         (group(0, 7), 0),
@@ -173,7 +175,6 @@ fn every_clause_of_the_rule() {
         (group(2, 7), 0),
         (method + 1, 1),
         (method + 2, 1_000_000_000),
-        (method, 19),
         (method + 19, 2),
         (TABLES + 2, 3),
         (TABLES + 3, 0),
@@ -201,6 +202,234 @@ fn every_clause_of_the_rule() {
     cells.truncate(CELLS - 1);
     assert_eq!(check(&cells, set.text.len(), set.image.len(), BASE, Some(16)), Some(20));
     assert!(!keeps_rule(&cells, set.text.len(), set.image.len()));
+}
+
+/// Every kind of object and of conversion. Objects: 0 AXIS_PTS, 1 VALUE, 2 VAL_BLK, 3 MEASUREMENT,
+/// 4 CURVE with its own axis, 5 CURVE and 6 MAP over the AXIS_PTS, 7 MAP with its own axes.
+fn kinds() -> Set {
+    let body = "/begin COMPU_METHOD I \"\" IDENTICAL \"\" \"\" /end COMPU_METHOD
+        /begin COMPU_METHOD L \"\" LINEAR \"\" \"\" COEFFS_LINEAR 0.25 -40 /end COMPU_METHOD
+        /begin RECORD_LAYOUT V FNC_VALUES 1 UBYTE ROW_DIR DIRECT /end RECORD_LAYOUT
+        /begin RECORD_LAYOUT X AXIS_PTS_X 1 UBYTE INDEX_INCR DIRECT /end RECORD_LAYOUT
+        /begin RECORD_LAYOUT XV AXIS_PTS_X 1 UBYTE INDEX_INCR DIRECT FNC_VALUES 2 UBYTE ROW_DIR DIRECT
+        /end RECORD_LAYOUT
+        /begin RECORD_LAYOUT XYV AXIS_PTS_X 1 UBYTE INDEX_INCR DIRECT AXIS_PTS_Y 2 UBYTE INDEX_INCR DIRECT
+          FNC_VALUES 3 UBYTE ROW_DIR DIRECT /end RECORD_LAYOUT
+        /begin AXIS_PTS A \"\" 0x1000 NO_INPUT_QUANTITY X 0 I 2 0 10 /end AXIS_PTS
+        /begin CHARACTERISTIC O1 \"\" VALUE 0x1000 V 0 L 0 10 /end CHARACTERISTIC
+        /begin CHARACTERISTIC O2 \"\" VAL_BLK 0x1000 V 0 I 0 10 NUMBER 3 /end CHARACTERISTIC
+        /begin MEASUREMENT O3 \"\" UBYTE L 0 0 0 10 ECU_ADDRESS 0x1003 /end MEASUREMENT
+        /begin CHARACTERISTIC O4 \"\" CURVE 0x1000 XV 0 L 0 10
+          /begin AXIS_DESCR STD_AXIS NO_INPUT_QUANTITY I 2 0 10 /end AXIS_DESCR /end CHARACTERISTIC
+        /begin CHARACTERISTIC O5 \"\" CURVE 0x1000 V 0 I 0 10
+          /begin AXIS_DESCR COM_AXIS NO_INPUT_QUANTITY I 2 0 10 AXIS_PTS_REF A /end AXIS_DESCR /end CHARACTERISTIC
+        /begin CHARACTERISTIC O6 \"\" MAP 0x1000 V 0 I 0 10
+          /begin AXIS_DESCR COM_AXIS NO_INPUT_QUANTITY I 2 0 10 AXIS_PTS_REF A /end AXIS_DESCR
+          /begin AXIS_DESCR COM_AXIS NO_INPUT_QUANTITY I 2 0 10 AXIS_PTS_REF A /end AXIS_DESCR /end CHARACTERISTIC
+        /begin CHARACTERISTIC O7 \"\" MAP 0x1000 XYV 0 I 0 10
+          /begin AXIS_DESCR STD_AXIS NO_INPUT_QUANTITY I 2 0 10 /end AXIS_DESCR
+          /begin AXIS_DESCR STD_AXIS NO_INPUT_QUANTITY I 2 0 10 /end AXIS_DESCR /end CHARACTERISTIC";
+    Set::new(body, &ZEROS)
+}
+
+/// The parts of an object in tests of the rule: x, y, values.
+const X: usize = 0;
+const Y: usize = 1;
+const V: usize = 2;
+
+impl Set {
+    /// Tells whether the tables as they are keep the rule.
+    fn keeps(&self) -> bool {
+        keeps_rule(&self.cells, self.text.len(), self.image.len())
+    }
+
+    /// The 19 cells of an object's part.
+    fn part(&mut self, object: usize, part: usize) -> &mut [u64] {
+        &mut self.cells[GROUPS + 1 + 19 * (3 * object + part)..][..19]
+    }
+
+    /// Takes a part away, its elements too.
+    fn without(mut self, object: usize, part: usize) -> Set {
+        let cells = self.part(object, part);
+        let elements = cells[3] * cells[4];
+        assert!(elements > 0, "a part that is there");
+        cells.fill(0);
+        self.cells[3] -= elements;
+        self
+    }
+
+    /// Gives a part so many points, the element total with it; a part that is not there becomes one of bytes.
+    fn with_points(mut self, object: usize, part: usize, x: u64, y: u64) -> Set {
+        let cells = self.part(object, part);
+        let elements = cells[3] * cells[4];
+        if cells[0] == 0 {
+            cells[0] = 1;
+        }
+        cells[3..7].copy_from_slice(&[x, y, x, y]);
+        self.cells[3] = self.cells[3] - elements + x * y;
+        self
+    }
+
+    /// Puts another value into a cell of a part.
+    fn with_cell(mut self, object: usize, part: usize, cell: usize, value: u64) -> Set {
+        self.part(object, part)[cell] = value;
+        self
+    }
+
+    /// Puts other signs and sizes into a method (0 is IDENTICAL, 1 LINEAR).
+    fn with_factors(mut self, method: usize, factors: [u64; 8]) -> Set {
+        self.cells[METHODS + 1 + 10 * method + 1..][..8].copy_from_slice(&factors);
+        self
+    }
+}
+
+#[test]
+fn an_identical_method_is_one_zero_zero_one() {
+    assert_eq!(kinds().cells[METHODS + 1..METHODS + 10], [19, 0, 1, 0, 0, 0, 0, 0, 1]);
+    // A minus before a size of 0 is still 0.
+    assert!(kinds().with_factors(0, [0, 1, 1, 0, 1, 0, 0, 1]).keeps());
+    let breaks = [
+        [0, 2, 0, 0, 0, 0, 0, 1],
+        [0, 2, 0, 0, 0, 0, 0, 2],
+        [0, 10, 0, 0, 0, 0, 0, 1],
+        [1, 1, 0, 0, 0, 0, 0, 1],
+        [1, 1, 0, 0, 0, 0, 1, 1],
+        [0, 1, 0, 1, 0, 0, 0, 1],
+        [0, 1, 1, 1, 0, 0, 0, 1],
+        [0, 1, 0, 0, 0, 1, 0, 1],
+        [0, 1, 0, 0, 1, 1, 0, 1],
+        [0, 1, 0, 0, 0, 0, 0, 2],
+        [0, 1, 0, 0, 0, 0, 1, 1],
+        [0, 1, 2, 0, 0, 0, 0, 1],
+    ];
+    for factors in breaks {
+        assert!(!kinds().with_factors(0, factors).keeps(), "{factors:?}");
+    }
+}
+
+#[test]
+fn a_linear_method_has_a_power_of_ten_and_no_e() {
+    assert_eq!(kinds().cells[METHODS + 11..METHODS + 20], [20, 0, 100, 0, 4000, 0, 0, 0, 25]);
+    for power in 0..=6 {
+        assert!(kinds().with_factors(1, [0, 10u64.pow(power), 0, 4000, 0, 0, 0, 25]).keeps(), "10^{power}");
+    }
+    let holds = [
+        // A minus before an e of 0, another c, another f, minus one of each.
+        [0, 100, 0, 4000, 1, 0, 0, 25],
+        [0, 100, 0, 0, 0, 0, 0, 25],
+        [0, 100, 1, 1_000_000_000, 0, 0, 0, 25],
+        [0, 100, 0, 4000, 0, 0, 1, 1_000_000_000],
+        [0, 1, 0, 0, 0, 0, 0, 1],
+    ];
+    for factors in holds {
+        assert!(kinds().with_factors(1, factors).keeps(), "{factors:?}");
+    }
+    let breaks = [
+        [0, 0, 0, 4000, 0, 0, 0, 25],
+        [0, 2, 0, 4000, 0, 0, 0, 25],
+        [0, 99, 0, 4000, 0, 0, 0, 25],
+        [0, 101, 0, 4000, 0, 0, 0, 25],
+        [0, 200, 0, 4000, 0, 0, 0, 25],
+        [0, 10_000_000, 0, 4000, 0, 0, 0, 25],
+        [0, 1_000_000_000, 0, 4000, 0, 0, 0, 25],
+        [1, 100, 0, 4000, 0, 0, 0, 25],
+        [0, 100, 0, 4000, 0, 1, 0, 25],
+        [0, 100, 0, 4000, 1, 1, 0, 25],
+        [0, 100, 0, 4000, 2, 0, 0, 25],
+        [0, 100, 0, 4000, 0, 0, 0, 0],
+    ];
+    for factors in breaks {
+        assert!(!kinds().with_factors(1, factors).keeps(), "{factors:?}");
+    }
+    // RAT_FUNC has any four numbers.
+    let mut set = kinds().with_factors(1, [0, 99, 0, 4000, 0, 1, 0, 25]);
+    set.cells[METHODS + 11] = 21;
+    assert!(set.keeps());
+}
+
+#[test]
+fn a_kind_has_its_parts_and_no_others() {
+    assert!(kinds().keeps());
+    // A part added where the kind has none.
+    for (object, part) in [(0, Y), (0, V), (1, X), (1, Y), (2, X), (2, Y), (3, X), (3, Y), (4, Y), (5, Y)] {
+        let set = kinds().with_points(object, part, 1, 1);
+        assert!(!set.keeps(), "object {object} part {part} added");
+        assert!(!set.with_cell(object, part, 10, 1).keeps(), "object {object} part {part} added, marked");
+    }
+    // One that the kind may have: an axis of a CURVE or a MAP that was a shared one.
+    for (object, part) in [(5, X), (6, X), (6, Y)] {
+        assert!(kinds().with_points(object, part, 1, 1).keeps(), "object {object} part {part} added");
+    }
+    assert!(kinds().with_points(6, X, 1, 1).with_points(6, Y, 2, 1).keeps());
+    // A part taken away that the kind needs, and one that it does not.
+    for (object, part) in [(0, X), (1, V), (2, V), (3, V), (4, V), (5, V), (6, V), (7, V)] {
+        assert!(!kinds().without(object, part).keeps(), "object {object} part {part} taken away");
+    }
+    for (object, part) in [(4, X), (7, X), (7, Y)] {
+        assert!(kinds().without(object, part).keeps(), "object {object} part {part} taken away");
+    }
+    assert!(kinds().without(7, X).without(7, Y).keeps());
+    // Instead of x the values, instead of the values x.
+    assert!(!kinds().without(0, X).with_points(0, V, 2, 1).keeps());
+    assert!(!kinds().without(1, V).with_points(1, X, 1, 1).keeps());
+}
+
+#[test]
+fn a_kind_has_its_number_of_elements() {
+    // VALUE and MEASUREMENT one element, VAL_BLK and CURVE one row, a MAP and an axis as many as there are.
+    for (object, part, x, y, keeps) in [
+        (1, V, 1, 1, true),
+        (1, V, 2, 1, false),
+        (1, V, 1, 2, false),
+        (3, V, 1, 1, true),
+        (3, V, 2, 1, false),
+        (3, V, 1, 2, false),
+        (2, V, 1, 1, true),
+        (2, V, 4, 1, true),
+        (2, V, 3, 2, false),
+        (2, V, 1, 3, false),
+        (4, V, 3, 1, true),
+        (4, V, 2, 2, false),
+        (5, V, 3, 1, true),
+        (5, V, 1, 2, false),
+        (6, V, 3, 2, true),
+        (6, V, 1, 5, true),
+        (7, V, 3, 1, true),
+        (0, X, 3, 1, true),
+        (0, X, 1, 2, false),
+        (7, Y, 3, 1, true),
+        (7, Y, 1, 3, false),
+    ] {
+        assert_eq!(kinds().with_points(object, part, x, y).keeps(), keeps, "object {object} part {part} {x} by {y}");
+    }
+    // At least one point in x and in y.
+    for (object, part) in [(0, X), (1, V), (2, V), (3, V), (4, X), (4, V), (5, V), (6, V), (7, X), (7, Y), (7, V)] {
+        for (x, y) in [(0, 1), (1, 0), (0, 0)] {
+            assert!(!kinds().with_points(object, part, x, y).keeps(), "object {object} part {part} {x} by {y}");
+        }
+        assert!(kinds().with_points(object, part, 1, 1).keeps(), "object {object} part {part} 1 by 1");
+    }
+}
+
+#[test]
+fn a_measurement_is_marked() {
+    for (mark, keeps) in [(0, false), (1, true), (2, false), (u64::MAX, false)] {
+        assert_eq!(kinds().with_cell(3, V, 10, mark).keeps(), keeps, "mark {mark}");
+    }
+    // The others are marked or not.
+    for (object, part) in [(0, X), (1, V), (2, V), (4, X), (4, V), (5, V), (6, V), (7, X), (7, Y), (7, V)] {
+        for mark in [0, 1] {
+            assert!(kinds().with_cell(object, part, 10, mark).keeps(), "object {object} part {part} mark {mark}");
+        }
+    }
+    // A MEASUREMENT's record under another kind, and the other way round.
+    for (object, kind, keeps) in
+        [(3, 15, true), (3, 16, true), (3, 17, true), (3, 18, true), (3, 7, false), (1, 10, false), (1, 16, true)]
+    {
+        let mut set = kinds();
+        set.cells[OBJECTS + 1 + 3 * object + 2] = kind;
+        assert_eq!(set.keeps(), keeps, "object {object} kind {kind}");
+    }
 }
 
 #[test]

@@ -1,4 +1,5 @@
 //! One case: a description from its seed, loaded by both readers, then every call compared.
+use crate::aimed::{aimed, AIMS};
 use crate::both::{Both, Call, Habits};
 use crate::damage::{damage_image, damage_text, damage_tokens, put_word};
 use crate::generate::make;
@@ -30,6 +31,8 @@ pub struct Stats {
     pub physical_answers: Counts,
     pub other_answers: Counts,
     pub damaged_answers: Counts,
+    /// How often each aim of damage was answered by the rule, and not with 20.
+    pub aimed: [u64; AIMS.len()],
     pub short_calls: u64,
     pub elements: u64,
 }
@@ -329,11 +332,12 @@ impl Run {
         rng: &mut Rng,
     ) -> Result<(), String> {
         let (text_len, image_len) = (both.text.len(), both.image.len());
-        for _ in 0..10 {
-            let changes = if rng.one_in(3) {
-                damaged_cells(cells, text_len, image_len, rng)
-            } else {
-                vec![damaged_cell(cells, text_len, image_len, rng)]
+        for _ in 0..12 {
+            let aim = if rng.one_in(2) { aimed(cells, image_len, rng) } else { None };
+            let changes = match &aim {
+                Some((_, changes)) => changes.clone(),
+                None if rng.one_in(3) => damaged_cells(cells, text_len, image_len, rng),
+                None => vec![damaged_cell(cells, text_len, image_len, rng)],
             };
             let call = any_call(cells, all, names, rng);
             // A damaged text place can make a very long listing.
@@ -350,6 +354,12 @@ impl Run {
             let rule = plain::keeps_rule(cells, text_len, image_len);
             if rule == (answer == 22) && answer != 20 {
                 return Err(format!("{what}: rule kept {rule}, answer {answer}"));
+            }
+            if let Some((number, _)) = aim {
+                if rule == AIMS[number].breaks {
+                    return Err(format!("{what}: {}: rule kept {rule}", AIMS[number].what));
+                }
+                self.stats.aimed[number] += (answer != 20) as u64;
             }
             self.stats.damaged_answers[answer as usize] += 1;
             for &(cell, value) in &right {

@@ -1,6 +1,7 @@
 //! Compares the proved reader with the plain one on descriptions made from seeds.
 //!
 //! `compare [--seed S] [--loads N] [--writes M] [--seconds T] [--out DIR] [--trace]`
+mod aimed;
 mod both;
 mod case;
 mod damage;
@@ -11,6 +12,7 @@ mod requests;
 mod rng;
 mod token;
 
+use aimed::AIMS;
 use case::{Counts, Run, Stats, Subject};
 use std::path::{Path, PathBuf};
 use std::time::{Duration, Instant};
@@ -85,6 +87,9 @@ fn never(stats: &Stats) -> Vec<String> {
     look("raw write", &stats.raw_answers, &[0, 14, 18, 19, 21]);
     look("physical write", &stats.physical_answers, &[0, 14, 15, 16, 17, 18, 19, 21]);
     look("damaged tables", &stats.damaged_answers, &[0, 20, 22]);
+    for (aim, _) in AIMS.iter().zip(stats.aimed).filter(|&(_, count)| count == 0) {
+        missing.push(aim.what.to_string());
+    }
     missing
 }
 
@@ -139,6 +144,10 @@ fn run(options: &Options) -> i32 {
     histogram("physical write", &stats.physical_answers);
     histogram("other calls", &stats.other_answers);
     histogram("damaged tables", &stats.damaged_answers);
+    for (aim, count) in AIMS.iter().zip(stats.aimed) {
+        let answer = if aim.breaks { "22" } else { "keeps" };
+        println!("  {:<40} {answer}: {count}", aim.what);
+    }
     println!("{:<18} {}", "buffers too short", stats.short_calls);
     println!("{:<18} {}", "elements", stats.elements);
     let habit = |zeros: Option<bool>| zeros.map_or("not seen", |zeros| if zeros { "zeros" } else { "untouched" });

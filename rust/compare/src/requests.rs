@@ -4,16 +4,21 @@ use crate::generate::decimal;
 use crate::rng::Rng;
 
 /// Where the sections stand in the tables: count cell, width of a record.
-const OBJECTS: usize = 4;
-const GROUPS: usize = OBJECTS + 1 + 3 * 512;
-const METHODS: usize = GROUPS + 1 + 19 * 1536;
+pub const OBJECTS: usize = 4;
+pub const GROUPS: usize = OBJECTS + 1 + 3 * 512;
+pub const METHODS: usize = GROUPS + 1 + 19 * 1536;
 const TABLES: usize = METHODS + 1 + 10 * 128;
 const ENTRIES: usize = TABLES + 1 + 4 * 128;
 const SECTIONS: [(usize, usize); 6] = [(0, 3), (OBJECTS, 3), (GROUPS, 19), (METHODS, 10), (TABLES, 4), (ENTRIES, 4)];
 
 /// The 19 cells of a group.
-fn group(cells: &[u64], number: usize) -> &[u64] {
+pub fn group(cells: &[u64], number: usize) -> &[u64] {
     &cells[GROUPS + 1 + 19 * number..][..19]
+}
+
+/// The 10 cells of a method.
+pub fn method(cells: &[u64], number: usize) -> &[u64] {
+    &cells[METHODS + 1 + 10 * number..][..10]
 }
 
 /// The names of all objects.
@@ -121,7 +126,7 @@ fn factors(cells: &[u64], part: &[u64]) -> Option<[i128; 4]> {
     if part[8] == 0 {
         return Some([1, 0, 0, 1]);
     }
-    let method = &cells[METHODS + 1 + 10 * (part[8] as usize - 1)..][..10];
+    let method = method(cells, part[8] as usize - 1);
     if method[0] == 22 {
         return None;
     }
@@ -312,7 +317,7 @@ pub fn damaged_cell(cells: &[u64], text_len: usize, image_len: usize, rng: &mut 
 pub fn damaged_cells(cells: &[u64], text_len: usize, image_len: usize, rng: &mut Rng) -> Vec<(usize, u64)> {
     let objects = cells[OBJECTS] as usize;
     let stored: Vec<usize> = (0..3 * objects).filter(|&number| group(cells, number)[0] != 0).collect();
-    match rng.below(4) {
+    match rng.below(5) {
         // Another number of points, the element total with it.
         0 | 1 if !stored.is_empty() => {
             let number = rng.pick(&stored);
@@ -331,6 +336,10 @@ pub fn damaged_cells(cells: &[u64], text_len: usize, image_len: usize, rng: &mut
                 changes.remove(rng.place(changes.len()));
             }
             changes
+        }
+        // Another kind of object.
+        3 if objects > 0 => {
+            vec![(OBJECTS + 1 + 3 * rng.place(objects) + 2, rng.pick(&[7, 10, 15, 16, 17, 18]))]
         }
         // One more object, which stores nothing, or a part with nothing but a type.
         2 if objects < 512 => {
@@ -361,7 +370,7 @@ pub fn damaged_cells(cells: &[u64], text_len: usize, image_len: usize, rng: &mut
             let mut changes = vec![(section, count + 1)];
             if section == METHODS {
                 let kind = rng.pick(&[18, 19, 20, 21, 22, 23]);
-                changes.extend([(at, kind), (at + 2, 1), (at + 8, 1_000_000_000 + rng.below(2))]);
+                changes.extend([(at, kind), (at + 2, 1), (at + 8, rng.pick(&[1, 1_000_000_000, 1_000_000_001]))]);
                 if kind == 22 {
                     changes.truncate(2);
                     changes.push((at + 9, rng.below(cells[TABLES] + 2)));

@@ -8,7 +8,7 @@ use std::slice::{from_raw_parts, from_raw_parts_mut};
 use std::sync::OnceLock;
 
 /// What OBARSIVEL_MOCK_BREAK breaks, from number 1.
-pub const BREAKS: [&str; 14] = [
+pub const BREAKS: [&str; 15] = [
     "a reference that leads nowhere is placed one byte on",
     "COLUMN_DIR is read as ROW_DIR",
     "after a write, lines of other elements are left stale",
@@ -23,6 +23,7 @@ pub const BREAKS: [&str; 14] = [
     "a physical write forgets the upper limit's own value",
     "a raw write of a value that does not fit is cut to the type",
     "the listing prints -0 for a zero numerator",
+    "a MEASUREMENT's mark is not looked at by the table rule",
 ];
 
 /// Tells whether a number is the one to break.
@@ -65,13 +66,19 @@ impl Columns<'_> {
     }
 }
 
-/// The lent tables, with the edition's cell cleared if that is to be broken.
+/// The lent tables, with the edition's cell cleared or every MEASUREMENT marked if that is to be broken.
 fn lent(tables: &[u64]) -> Cow<'_, [u64]> {
-    if !broken(6) || tables.len() < 2 {
+    if !broken(6) && !broken(15) || tables.len() < TABLE_CELLS {
         return Cow::Borrowed(tables);
     }
     let mut cells = tables.to_vec();
-    cells[1] = 0;
+    if broken(6) {
+        cells[1] = 0;
+        return Cow::Owned(cells);
+    }
+    for object in (0..tables[4].min(512) as usize).filter(|object| tables[5 + 3 * object + 2] == 10) {
+        cells[1542 + 19 * (3 * object + 2) + 10] = 1;
+    }
     Cow::Owned(cells)
 }
 

@@ -103,10 +103,11 @@ int64_t obarsivel_find(const uint8_t *text, size_t text_len,
  *   out    5 cells or more; 0 to 4 become: raw value, state, first, second,
  *          what is shown (0 nothing, 1 the number in shown[0], 2 the text
  *          whose places are first and second)
- *   shown  1 cell or more; the number is one binary64 division of first by
- *          second, given where both are at most 2^53 in size. Where out[4] is
- *          not 1, shown[0] means nothing.
- * Answers 0, or 20, 22, 14; then out and shown are untouched. */
+ *   shown  1 cell or more; shown[0] becomes the number, which is one binary64
+ *          division of first by second, given where both are at most 2^53 in
+ *          size; where out[4] is not 1 it becomes 0.0.
+ * Answers 0, and the cells past those stay untouched; or 20 (out or shown too
+ * short included), 22, 14, and all of out and shown stay untouched. */
 uint32_t obarsivel_read(const uint8_t *text, size_t text_len,
                         const uint8_t *image, size_t image_len, uint32_t base,
                         const uint64_t *tables, size_t tables_len,

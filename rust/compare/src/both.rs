@@ -59,14 +59,8 @@ impl Call {
     }
 }
 
-/// How the proved reader leaves what the contract says nothing about; it must be the same all the time.
-#[derive(Clone, Copy, PartialEq, Eq, Debug, Default)]
-pub struct Habits {
-    /// `out` and `shown` of a read refused with 14 or 22: zeros (true) or untouched (false).
-    pub refused_read_zeros: Option<bool>,
-    /// `shown` of a read that shows no number: zero (true) or untouched (false).
-    pub no_number_zeros: Option<bool>,
-}
+/// How many cells a read fills in `out`.
+const READING: usize = 5;
 
 /// What `out`, `shown` and the printed bytes hold before a call.
 const OUT_BEFORE: i64 = 0x5A5A_5A5A_0F0F;
@@ -99,19 +93,12 @@ fn columns(lines: &[Line]) -> (Vec<i64>, Vec<u8>, Vec<i64>, Vec<i64>) {
     )
 }
 
-/// Notes a habit, or tells that it was another before.
-fn same_habit(habit: &mut Option<bool>, now: bool, what: &str) -> Result<(), String> {
-    if habit.is_some_and(|before| before != now) {
-        return Err(format!("{what}: zeros in one call, untouched in another"));
-    }
-    *habit = Some(now);
-    Ok(())
-}
-
 impl<'a> Both<'a> {
     /// Both readers over a description, an image and these lines to begin with.
     pub fn new(text: &'a [u8], image: &[u8], base: u32, lines: Vec<Line>) -> Both<'a> {
         let (raw, state, first, second) = columns(&lines);
+        // In two of three cases more cells than a reading takes.
+        let more = text.len() % 3;
         Both {
             text,
             base,
@@ -122,8 +109,8 @@ impl<'a> Both<'a> {
             state: Lent::new(&state, 0x99),
             first: Lent::new(&first, -78),
             second: Lent::new(&second, -79),
-            out: Lent::new(&[OUT_BEFORE; 5], -80),
-            shown: Lent::new(&[SHOWN_BEFORE.to_bits(); 1], 81),
+            out: Lent::new(&vec![OUT_BEFORE; READING + more], -80),
+            shown: Lent::new(&vec![SHOWN_BEFORE.to_bits(); 1 + more], 81),
             printed: Lent::new(&[], 0xB8),
         }
     }
@@ -257,7 +244,7 @@ impl<'a> Both<'a> {
     }
 
     /// Makes a call on both readers and compares answers and everything lent; gives the answer's refusal or 0.
-    pub fn call(&mut self, call: &Call, tables: &[u64], habits: &mut Habits) -> Result<u8, String> {
+    pub fn call(&mut self, call: &Call, tables: &[u64]) -> Result<u8, String> {
         let refusal = match call {
             Call::Find(name) => {
                 let answer = self.proved(call, tables);
@@ -276,7 +263,7 @@ impl<'a> Both<'a> {
                 let answer = self.proved(call, tables);
                 let wanted = plain::read(self.text, &self.image, self.base, tables, object, part, index);
                 same_answer(answer, wanted.err().unwrap_or(0) as i64)?;
-                self.same_read(wanted, habits)?;
+                self.same_read(wanted)?;
                 wanted.err().unwrap_or(0)
             }
             Call::MakeList => {
@@ -349,39 +336,38 @@ impl<'a> Both<'a> {
         Ok(refusal)
     }
 
-    /// Compares what a read has put into `out` and `shown`.
-    fn same_read(&self, wanted: Result<(Line, Shown), u8>, habits: &mut Habits) -> Result<(), String> {
-        let (out, shown) = (self.out.get(), self.shown.get()[0]);
-        let untouched = out.iter().all(|&cell| cell == OUT_BEFORE) && shown == SHOWN_BEFORE.to_bits();
-        match wanted {
-            Err(20) if untouched => Ok(()),
-            Err(20) => Err("a read refused with 20 touched its buffers".to_string()),
-            Err(_) => {
-                let zeros = out.iter().all(|&cell| cell == 0) && shown == 0;
-                if !zeros && !untouched {
-                    return Err(format!("a refused read left {out:?} {shown:#x}"));
-                }
-                same_habit(&mut habits.refused_read_zeros, zeros, "out and shown of a refused read")
-            }
-            Ok((line, value)) => {
-                let what = match value {
-                    Shown::Nothing => 0,
-                    Shown::Real(_) => 1,
-                    Shown::Words(..) => 2,
-                };
-                let cells = [line.raw, line.state as i64, line.first, line.second, what];
-                if out != cells {
-                    return Err(format!("read: proved {out:?}, plain {cells:?}"));
-                }
-                match value {
-                    Shown::Real(number) if number.to_bits() == shown => Ok(()),
-                    Shown::Real(number) => Err(format!("shown: proved {:e}, plain {number:e}", f64::from_bits(shown))),
-                    _ if shown == 0 || shown == SHOWN_BEFORE.to_bits() => {
-                        same_habit(&mut habits.no_number_zeros, shown == 0, "shown where there is no number")
-                    }
-                    _ => Err(format!("shown without a number: {shown:#x}")),
-                }
-            }
+    /// Tells whether `out` and `shown` from these cells on are as before the call.
+    fn untouched(&self, out: usize, shown: usize) -> bool {
+        self.out.get()[out..].iter().all(|&cell| cell == OUT_BEFORE)
+            && self.shown.get()[shown..].iter().all(|&cell| cell == SHOWN_BEFORE.to_bits())
+    }
+
+    /// Compares what a read has put into `out` and `shown`: nothing where it is refused; else the five numbers,
+    /// and the shown number or 0 where none is shown.
+    fn same_read(&self, wanted: Result<(Line, Shown), u8>) -> Result<(), String> {
+        let (out, shown) = (self.out.get(), self.shown.get());
+        let Ok((line, value)) = wanted else {
+            return match self.untouched(0, 0) {
+                true => Ok(()),
+                false => Err(format!("a refused read left {out:?} {shown:x?}")),
+            };
+        };
+        let (what, number) = match value {
+            Shown::Nothing => (0, 0.0),
+            Shown::Real(number) => (1, number),
+            Shown::Words(..) => (2, 0.0),
+        };
+        let cells = [line.raw, line.state as i64, line.first, line.second, what];
+        if out[..READING] != cells {
+            return Err(format!("read: proved {:?}, plain {cells:?}", &out[..READING]));
+        }
+        if shown[0] != number.to_bits() {
+            let found = f64::from_bits(shown[0]);
+            return Err(format!("shown, with {what} shown: proved {found:e}, plain {number:e}"));
+        }
+        match self.untouched(READING, 1) {
+            true => Ok(()),
+            false => Err("a read touched cells past its five numbers or past the shown one".to_string()),
         }
     }
 
@@ -409,7 +395,7 @@ impl<'a> Both<'a> {
             Buffer::First => self.first.lend(elements - 1),
             Buffer::Second => self.second.lend(elements - 1),
             Buffer::Out => {
-                self.out.lend(4);
+                self.out.lend(READING - 1);
                 self.printed.lend(self.printed.get().len() - matches!(call, Call::Listing) as usize);
             }
             Buffer::Shown => self.shown.lend(0),
@@ -429,10 +415,7 @@ impl<'a> Both<'a> {
     /// Asserts an answer of 20 with nothing touched.
     fn refused_with_20(&self, call: &Call, answer: i64) -> Result<(), String> {
         same_answer(answer, if matches!(call, Call::Find(_) | Call::Listing) { -20 } else { 20 })?;
-        let untouched = self.out.get().iter().all(|&cell| cell == OUT_BEFORE)
-            && self.shown.get() == [SHOWN_BEFORE.to_bits()]
-            && self.printed.get().iter().all(|&byte| byte == BYTE_BEFORE);
-        if !untouched {
+        if !self.untouched(0, 0) || self.printed.get().iter().any(|&byte| byte != BYTE_BEFORE) {
             return Err("a call refused with 20 touched out, shown or the listing".to_string());
         }
         self.same_state()

@@ -1,6 +1,6 @@
 //! One case: a description from its seed, loaded by both readers, then every call compared.
 use crate::aimed::{aimed, AIMS};
-use crate::both::{Both, Call, Habits};
+use crate::both::{Both, Call};
 use crate::damage::{damage_image, damage_text, damage_tokens, put_word};
 use crate::generate::make;
 use crate::large::{large, KINDS};
@@ -40,7 +40,6 @@ pub struct Stats {
 /// The buffers and counts that all cases share.
 pub struct Run {
     pub stats: Stats,
-    pub habits: Habits,
     pub writes: u64,
     tables: Lent<u64>,
     work: Lent<u64>,
@@ -93,7 +92,6 @@ impl Run {
     pub fn new(writes: u64) -> Run {
         Run {
             stats: Stats::default(),
-            habits: Habits::default(),
             writes,
             tables: Lent::new(&vec![0; plain::CELLS + 3], 0xFEED),
             work: Lent::new(&vec![0; raw::WORK_CELLS + 3], 0xFEED),
@@ -297,7 +295,7 @@ impl Run {
             }
             let call = write(&cells, &all, rng);
             requests.push(format!("{call:?}"));
-            let answer = both.call(&call, &cells, &mut self.habits).map_err(|why| format!("{call:?}: {why}"))?;
+            let answer = both.call(&call, &cells).map_err(|why| format!("{call:?}: {why}"))?;
             self.stats.writes += 1;
             if let Call::WriteRaw(..) = call {
                 self.stats.raw_answers[answer as usize] += 1;
@@ -350,7 +348,7 @@ impl Run {
             }
             let what = format!("cells {right:?} -> {changes:?}: {call:?}");
             requests.push(what.clone());
-            let answer = both.call(&call, cells, &mut self.habits).map_err(|why| format!("{what}: {why}"))?;
+            let answer = both.call(&call, cells).map_err(|why| format!("{what}: {why}"))?;
             let rule = plain::keeps_rule(cells, text_len, image_len);
             if rule == (answer == 22) && answer != 20 {
                 return Err(format!("{what}: rule kept {rule}, answer {answer}"));
@@ -371,7 +369,7 @@ impl Run {
 
     /// Makes one call that is no write, and counts its answer.
     fn other(&mut self, both: &mut Both, call: Call, cells: &[u64], requests: &mut Vec<String>) -> Result<(), String> {
-        let answer = both.call(&call, cells, &mut self.habits).map_err(|why| {
+        let answer = both.call(&call, cells).map_err(|why| {
             requests.push(format!("{call:?}"));
             format!("{call:?}: {why}")
         })?;

@@ -150,9 +150,6 @@ fn run(options: &Options) -> i32 {
     }
     println!("{:<18} {}", "buffers too short", stats.short_calls);
     println!("{:<18} {}", "elements", stats.elements);
-    let habit = |zeros: Option<bool>| zeros.map_or("not seen", |zeros| if zeros { "zeros" } else { "untouched" });
-    println!("{:<18} {}", "a refused read", habit(run.habits.refused_read_zeros));
-    println!("{:<18} {}", "shown, no number", habit(run.habits.no_number_zeros));
     println!("{:<18} {:.1}", "seconds", start.elapsed().as_secs_f64());
     let missing = never(stats);
     if !missing.is_empty() {

@@ -8,7 +8,7 @@ use std::slice::{from_raw_parts, from_raw_parts_mut};
 use std::sync::OnceLock;
 
 /// What OBARSIVEL_MOCK_BREAK breaks, from number 1.
-pub const BREAKS: [&str; 15] = [
+pub const BREAKS: [&str; 17] = [
     "a reference that leads nowhere is placed one byte on",
     "COLUMN_DIR is read as ROW_DIR",
     "after a write, lines of other elements are left stale",
@@ -24,6 +24,8 @@ pub const BREAKS: [&str; 15] = [
     "a raw write of a value that does not fit is cut to the type",
     "the listing prints -0 for a zero numerator",
     "a MEASUREMENT's mark is not looked at by the table rule",
+    "a refused read has put zeros into out and shown",
+    "a read without a number leaves shown as it was",
 ];
 
 /// Tells whether a number is the one to break.
@@ -202,11 +204,13 @@ pub unsafe extern "C" fn obarsivel_read(
                 Shown::Words(..) => (2, 0.0),
             };
             out[..5].copy_from_slice(&[line.raw, line.state as i64, line.first, line.second, what]);
-            shown[0] = number;
+            if !broken(17) || what == 1 {
+                shown[0] = number;
+            }
             0
         }
         Err(number) => {
-            if number != 20 {
+            if broken(16) && number != 20 {
                 out[..5].fill(0);
                 shown[0] = 0.0;
             }

@@ -47,12 +47,16 @@ int main(int argc, char **argv) {
         fprintf(stderr, "usage: cabin DESC IMAGE\n");
         return 2;
     }
+    if (obarsivel_version() != OBARSIVEL_VERSION) {
+        fprintf(stderr, "obarsivel.h and libffi.a are of two versions\n");
+        return 2;
+    }
     text_len = read_file(argv[1], text, sizeof text);
     image_len = read_file(argv[2], image, sizeof image);
 
     uint64_t loaded = obarsivel_load(text, text_len, image, image_len, BASE, tables, OBARSIVEL_TABLE_CELLS, work, OBARSIVEL_WORK_CELLS);
     if (loaded != 0) {
-        printf("refused %d at %d\n", (int)(loaded % 64), (int)(loaded / 64));
+        printf("refused %u at %u\n", OBARSIVEL_LOAD_NUMBER(loaded), OBARSIVEL_LOAD_PLACE(loaded));
         return 1;
     }
 
@@ -67,6 +71,8 @@ int main(int argc, char **argv) {
         answer = obarsivel_write_physical(LOADED, COLUMNS, object("U_LOW"), OBARSIVEL_PART_V, 0, (const uint8_t *)"12.25", 5);
     printf("warn below 12.25 V: %s\n", answer == 0 ? "ok" : "refused");
     answer = obarsivel_write_physical(LOADED, COLUMNS, object("U_LOW"), OBARSIVEL_PART_V, 0, (const uint8_t *)"9", 1);
+    if (answer != OBARSIVEL_REFUSED_LIMITS)
+        return 1;
     printf("warn below 9 V: refused %u\n", answer);
 
     int64_t n = obarsivel_listing(LOADED, COLUMNS, out, sizeof out);

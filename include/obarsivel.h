@@ -55,6 +55,42 @@
 extern "C" {
 #endif
 
+/* The version of this header. */
+#define OBARSIVEL_VERSION_MAJOR 0
+#define OBARSIVEL_VERSION_MINOR 2
+#define OBARSIVEL_VERSION_PATCH 0
+#define OBARSIVEL_VERSION \
+    (OBARSIVEL_VERSION_MAJOR * 65536 + OBARSIVEL_VERSION_MINOR * 256 + OBARSIVEL_VERSION_PATCH)
+
+/* The refusals' numbers. */
+#define OBARSIVEL_REFUSED_TOKEN 1
+#define OBARSIVEL_REFUSED_NUMBER 2
+#define OBARSIVEL_REFUSED_BLOCKS 3
+#define OBARSIVEL_REFUSED_UNKNOWN_KEYWORD 4
+#define OBARSIVEL_REFUSED_PARAMETER 5
+#define OBARSIVEL_REFUSED_TWICE 6
+#define OBARSIVEL_REFUSED_REFERENCE 7
+#define OBARSIVEL_REFUSED_CAPACITY 8
+#define OBARSIVEL_REFUSED_NOT_TAKEN 9
+#define OBARSIVEL_REFUSED_CONVERSION 10
+#define OBARSIVEL_REFUSED_LAYOUT 11
+#define OBARSIVEL_REFUSED_OUTSIDE_IMAGE 12
+#define OBARSIVEL_REFUSED_COUNT 13
+#define OBARSIVEL_REFUSED_NO_ELEMENT 14
+#define OBARSIVEL_REFUSED_ASKED 15
+#define OBARSIVEL_REFUSED_LIMITS 16
+#define OBARSIVEL_REFUSED_NO_RAW 17
+#define OBARSIVEL_REFUSED_NO_FIT 18
+#define OBARSIVEL_REFUSED_SHARES_COUNT 19
+#define OBARSIVEL_REFUSED_SIZES 20
+#define OBARSIVEL_REFUSED_READ_ONLY 21
+#define OBARSIVEL_REFUSED_TABLES 22
+
+/* The number and the place of a refused load, out of what obarsivel_load
+ * answers. */
+#define OBARSIVEL_LOAD_NUMBER(answer) ((uint32_t)((uint64_t)(answer) % 64))
+#define OBARSIVEL_LOAD_PLACE(answer) ((uint32_t)((uint64_t)(answer) / 64))
+
 /* Cells of the tables at full capacity, and cells that a load works in. */
 #define OBARSIVEL_TABLE_CELLS 36617
 #define OBARSIVEL_WORK_CELLS 42578
@@ -78,13 +114,19 @@ extern "C" {
 #define OBARSIVEL_STATE_NUMBER 1
 #define OBARSIVEL_STATE_TEXT 2
 
+/* The version of the archive that is linked.
+ * Answers MAJOR * 65536 + MINOR * 256 + PATCH: OBARSIVEL_VERSION where header
+ * and archive are of one version. */
+uint32_t obarsivel_version(void);
+
 /* Reads a description against an image.
  *   tables  36,617 cells or more; any content before. Accepted: filled, cells
  *           past 36,617 zero. Refused: all zero, but with 20 untouched.
  *   work    42,578 cells or more; any content before; zero after, but with 20
  *           untouched. It need not be kept.
- * Answers 0 (accepted), or place * 64 + number with number 1 to 13 or 20. The
- * place is the refusal's first byte in the description (0 with 20). */
+ * Answers 0 (accepted), or place * 64 + number with number 1 to 13 or 20
+ * (OBARSIVEL_LOAD_NUMBER, OBARSIVEL_LOAD_PLACE). The place is the refusal's
+ * first byte in the description (0 with 20). */
 uint64_t obarsivel_load(const uint8_t *text, size_t text_len,
                         const uint8_t *image, size_t image_len, uint32_t base,
                         uint64_t *tables, size_t tables_len,

@@ -18,6 +18,16 @@ use Rattle.listing.specs.Listing.{Listed}
 use Rattle.listing.specs.declared.listing.ListingAnswer.{ListingAnswer}
 use Rattle.listing.specs.declared.listing.ListingAnswer.the-variants as listing
 
+-- ---- obarsivel_version
+
+-- "MAJOR * 65536 + MINOR * 256 + PATCH"
+abbrev pub versionNumber : ℕ → ℕ → ℕ → ℕ
+versionNumber major minor patch = major * 65536 + minor * 256 + patch
+
+-- version 0.2.0
+abbrev pub version : ℕ
+version = versionNumber 0 2 0
+
 -- ---- obarsivel_load
 
 -- what `LoadAnswer` answers

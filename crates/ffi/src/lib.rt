@@ -20,13 +20,28 @@ ghost use lib.ListN.{length};
 ghost use Rattle.load.specs.Load.{loaded};
 ghost use Rattle.list.specs.Calls.{lentOf, kept, searched, reading, making, rawNumber, physicalText, request, writing};
 ghost use Rattle.listing.specs.Listing.{listing};
-ghost use Rattle.ffi.specs.Numbers.{loadCall, loadTold, findNumber, readCall, readTold, listCall, listTold, listingCall, listingTold};
+ghost use Rattle.ffi.specs.Numbers.{version, loadCall, loadTold, findNumber, readCall, readTold, listCall, listTold, listingCall, listingTold};
+
+// The version, as include/obarsivel.h has it.
+const MAJOR: u32 = 0;
+
+const MINOR: u32 = 2;
+
+const PATCH: u32 = 0;
 
 // A lent buffer is too short.
 const TOO_SHORT: u32 = 20;
 
 // How many numbers a reading has: raw, state, the two numbers, what is shown.
 const READING: usize = 5;
+
+// The version: MAJOR times 65536, MINOR times 256, and PATCH.
+#[no_mangle]
+pub extern "C" fn obarsivel_version() -> u32
+    ensures { λ r. ⌜ r ≡ version ⌝ }
+{
+    MAJOR * 65536 + MINOR * 256 + PATCH
+}
 
 // Loads a description: 0, or the refusal's place times 64 and its number.
 #[no_mangle]

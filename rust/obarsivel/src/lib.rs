@@ -115,6 +115,13 @@ fn accepted(number: u32) -> Result<(), Refusal> {
     }
 }
 
+/// The version of the proved reader that is linked: major, minor, patch.
+pub fn version() -> (u32, u32, u32) {
+    // SAFETY: it takes nothing and touches nothing.
+    let number = unsafe { raw::obarsivel_version() };
+    (number / 65536, number / 256 % 256, number % 256)
+}
+
 impl Description {
     /// Reads a description against the image that stands at a base address, and makes its list.
     ///

@@ -84,6 +84,16 @@ fn lent(tables: &[u64]) -> Cow<'_, [u64]> {
     Cow::Owned(cells)
 }
 
+/// The archive's version: major * 65536 + minor * 256 + patch.
+///
+/// # Safety
+/// Always; only the archive's function of the same form is not safe to call.
+pub unsafe extern "C" fn obarsivel_version() -> u32 {
+    [env!("CARGO_PKG_VERSION_MAJOR"), env!("CARGO_PKG_VERSION_MINOR"), env!("CARGO_PKG_VERSION_PATCH")]
+        .iter()
+        .fold(0, |number, part| number * 256 + part.parse().unwrap_or(0))
+}
+
 /// Loads a description: 0, or place * 64 + the refusal's number.
 ///
 /// # Safety

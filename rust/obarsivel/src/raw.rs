@@ -13,6 +13,9 @@ pub use crate::mock::*;
 
 #[cfg(not(feature = "mock"))]
 extern "C" {
+    /// The archive's version: major * 65536 + minor * 256 + patch.
+    pub fn obarsivel_version() -> u32;
+
     /// Loads a description: 0, or place * 64 + the refusal's number.
     pub fn obarsivel_load(
         text: *const u8,

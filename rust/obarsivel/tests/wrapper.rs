@@ -1,5 +1,5 @@
 //! The wrapper's own doings: refusals in words, places, lines, parts, the listing's room.
-use obarsivel::{line_and_column, Description, Part, Physical, Refusal, Shown};
+use obarsivel::{line_and_column, version, Description, Part, Physical, Refusal, Shown};
 
 /// A map with stored axes (COLUMN_DIR, y turned) and a verbal value.
 const TEXT: &str = r#"/begin PROJECT P "" /begin MODULE M ""
@@ -84,6 +84,16 @@ fn refusals_in_words_and_places() {
     assert!(sizes.to_string().starts_with("refused 20: a lent buffer is too short"));
     let numbers = 1..=22;
     assert!(numbers.map(|number| Refusal { number, place: 0 }).all(|it| it.reason() != "an unknown refusal"));
+}
+
+#[test]
+fn one_version_of_crate_header_and_archive() {
+    let (major, minor, patch) = version();
+    assert_eq!(format!("{major}.{minor}.{patch}"), env!("CARGO_PKG_VERSION"));
+    let header = include_str!("../../../include/obarsivel.h");
+    for (name, number) in [("MAJOR", major), ("MINOR", minor), ("PATCH", patch)] {
+        assert!(header.contains(&format!("#define OBARSIVEL_VERSION_{name} {number}\n")), "{name} {number}");
+    }
 }
 
 #[test]

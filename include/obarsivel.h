@@ -16,33 +16,36 @@
  *                      base + image_len is at most 2^32
  *   tables, tables_len what obarsivel_load has filled, 36,617 cells or more
  *
- * Refusals (document 01's numbers). 20 comes first and leaves everything
- * untouched: a lent buffer is too short, text or image too long, or base plus
- * image above 2^32. 22 comes next in every call after the load: the tables
- * break the table rule. No refusal touches image or list.
+ * Refusals. 20 comes first and leaves everything untouched. 22 comes next in
+ * every call after the load. No refusal touches image or list. Each number has
+ * a constant below, and its reason is worded as in docs/refusals.tsv:
  *    1 a token that the rules don't allow, or unclosed
  *    2 a number outside its form
  *    3 begin and end don't match, too deep, text ends early, or text after
  *      PROJECT's end
- *    4 a keyword that document 000 doesn't list
- *    5 a parameter or needed keyword missing, of the wrong kind, misplaced or
- *      unused, or lower limit above upper
- *    6 a name or a once-only keyword twice, or one AXIS_DESCR too many
+ *    4 a keyword that the standard doesn't list
+ *    5 a parameter or needed keyword is missing, of the wrong kind or
+ *      misplaced, an unused word, or the lower limit is above the upper
+ *    6 a name or a once-only keyword stands twice, or one AXIS_DESCR too many
  *    7 a reference that leads nowhere
- *    8 a capacity exceeded
- *    9 a keyword of document 000 that is not taken, or a or d not 0
- *   10 b*f = c*e, or one of the four above 10^9
- *   11 layout breaks the rules of place or lacks a part; mask breaks its rule
+ *    8 a capacity is exceeded
+ *    9 a keyword of the standard that is not taken here, or coefficient a or d
+ *      is not 0
+ *   10 the conversion's b*f equals c*e, or one of its four coefficients is
+ *      above 10^9
+ *   11 the layout breaks the rules of place or lacks a part, or the mask breaks
+ *      its rule
  *   12 a byte outside the image
- *   13 stored count out of range
+ *   13 a stored count is out of range
  *   14 no such element
- *   15 asked value outside its form, or physical write under TAB_VERB
- *   16 asked value outside limits
+ *   15 the asked value is outside its form, or a physical write under TAB_VERB
+ *   16 the asked value is outside the limits
  *   17 no raw value exists
- *   18 doesn't fit type or mask
- *   19 the element to write shares a byte with any stored count
- *   20 a lent buffer too short, text or image too long, base plus image > 2^32
- *   21 MEASUREMENT or READ_ONLY
+ *   18 the value doesn't fit the type or the mask
+ *   19 the element shares a byte with a stored count
+ *   20 a lent buffer is too short, text or image too long, or base plus image
+ *      above 2^32
+ *   21 a MEASUREMENT or READ_ONLY
  *   22 a lent table breaks the table rule
  */
 #ifndef OBARSIVEL_H

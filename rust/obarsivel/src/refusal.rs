@@ -22,7 +22,7 @@ pub struct Located {
 }
 
 impl Refusal {
-    /// The reason in words.
+    /// The reason in words, those of docs/refusals.tsv.
     pub fn reason(&self) -> &'static str {
         match self.number {
             1 => "a token that the rules don't allow, or unclosed",
@@ -30,8 +30,8 @@ impl Refusal {
             3 => "begin and end don't match, too deep, text ends early, or text after PROJECT's end",
             4 => "a keyword that the standard doesn't list",
             5 => {
-                "a parameter or needed keyword is missing, of the wrong kind, misplaced or unused, \
-                 or a lower limit is above the upper"
+                "a parameter or needed keyword is missing, of the wrong kind or misplaced, an unused word, \
+                 or the lower limit is above the upper"
             }
             6 => "a name or a once-only keyword stands twice, or one AXIS_DESCR too many",
             7 => "a reference that leads nowhere",

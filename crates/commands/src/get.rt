@@ -1,17 +1,14 @@
-// The command `get`: one element's line, and the shown number where there is one.
-use crate::lines::print_line;
-use crate::requested::ElementTyped;
-use crate::requested::element_named;
-use crate::requested::error_of;
+// The command `get`: one element's line, and its fraction rounded to six places.
 use ask::six::Six;
 use ask::six::six_places;
 use cell::size::size;
 use console::arguments::INDEX;
 use console::arguments::NAME;
 use console::arguments::PART;
+use console::ending::Ending;
+use console::ending::say;
+use console::ending::say_number;
 use console::message::refused;
-use console::message::say;
-use console::message::say_number;
 use console::sizes::LINES;
 use console::sizes::WORD_ROOM;
 use console::sizes::front;
@@ -21,6 +18,10 @@ use list::make::make_list;
 use list::read::ReadAnswer;
 use list::read::read;
 use list::write::CallAnswer;
+use printing::lines::is_line_printed;
+use requests::requested::ElementTyped;
+use requests::requested::element_named;
+use requests::requested::error_of;
 
 // How many millionths one has.
 const MILLION: u64 = 1000000;
@@ -52,26 +53,26 @@ fn say_sign(z: i64, six: Six) {
     }
 }
 
-// Writes the shown number, rounded to six places.
-fn say_shown(p: Physical) {
+// Writes a fraction rounded to six places.
+fn say_rounded(p: Physical) {
     let six = six_places(size(p.first), size(p.second));
-    say(b"shown\t");
+    say(b"rounded\t");
     say_sign(p.first, six);
     say_number(six.whole);
     say_places(six.millionths as u64);
     say(b"\n");
 }
 
-// Writes the shown number of a value that has one.
-fn print_shown(p: Physical, shown: Shown) {
+// Writes the fraction of a value that shows a number, rounded.
+fn print_rounded(p: Physical, shown: Shown) {
     match shown {
-        Shown::Real(_) => say_shown(p),
+        Shown::Real(_) => say_rounded(p),
         Shown::Words(_, _) => {}
         Shown::Nothing => {}
     }
 }
 
-// Writes the line of an element from a list of the image, and its shown number.
+// Writes the line of an element from a list of the image, and its fraction rounded.
 fn print_element(
     x: &[u8],
     image: &[u8],
@@ -82,7 +83,7 @@ fn print_element(
     index: u32,
     p: Physical,
     shown: Shown,
-) {
+) -> Ending {
     let mut raw = [0i64; LINES];
     let mut state = [0u8; LINES];
     let mut first = [0i64; LINES];
@@ -98,7 +99,7 @@ fn print_element(
         &mut second,
     ) {
         CallAnswer::Done => {
-            print_line(
+            if is_line_printed(
                 x,
                 image,
                 base,
@@ -110,15 +111,26 @@ fn print_element(
                 &state,
                 &first,
                 &second,
-            );
-            print_shown(p, shown);
+            ) {
+                print_rounded(p, shown);
+                return Ending::Done;
+            }
+            Ending::Refused
         }
         CallAnswer::Refused { no } => refused(no),
     }
 }
 
 // Reads an element.
-fn get_element(x: &[u8], image: &[u8], base: u32, t: &[u64], object: u32, part: u8, index: u32) {
+fn get_element(
+    x: &[u8],
+    image: &[u8],
+    base: u32,
+    t: &[u64],
+    object: u32,
+    part: u8,
+    index: u32,
+) -> Ending {
     match read(x, image, base, t, object, part, index) {
         ReadAnswer::Element {
             raw: _,
@@ -130,7 +142,7 @@ fn get_element(x: &[u8], image: &[u8], base: u32, t: &[u64], object: u32, part: 
 }
 
 // Reads the element that the arguments name.
-pub fn get(x: &[u8], image: &[u8], base: u32, t: &[u64]) {
+pub fn get(x: &[u8], image: &[u8], base: u32, t: &[u64]) -> Ending {
     let mut name = [0u8; WORD_ROOM];
     let mut letter = [0u8; WORD_ROOM];
     let mut number = [0u8; WORD_ROOM];

@@ -1,7 +1,5 @@
 // The program's commands: `list`, `get`, `set`, `apply`. Nothing of the reader rests on it.
-mod apply;
 mod get;
-mod lines;
-mod requested;
+mod listed;
 pub mod run;
 mod set;

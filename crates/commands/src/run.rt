@@ -1,15 +1,18 @@
 // A command from its files on: they are read, the description is loaded, and the command is carried out.
-use crate::apply::apply;
 use crate::get::get;
-use crate::lines::list;
+use crate::listed::list;
 use crate::set::set;
+use console::arguments::BASE;
+use console::arguments::BaseTyped;
 use console::arguments::Command;
 use console::arguments::DESCRIPTION;
 use console::arguments::IMAGE;
-use console::arguments::NumberTyped;
 use console::arguments::base_typed;
+use console::ending::Ending;
 use console::file::FileRead;
 use console::file::read_file;
+use console::message::error_about;
+use console::message::refused;
 use console::message::refused_load;
 use console::message::refused_size;
 use console::sizes::IMAGE_BYTES;
@@ -17,72 +20,84 @@ use console::sizes::IMAGE_ROOM;
 use console::sizes::TABLE_CELLS;
 use console::sizes::TEXT_BYTES;
 use console::sizes::TEXT_ROOM;
+use console::sizes::WORD_ROOM;
 use console::sizes::WORK_CELLS;
 use console::sizes::front;
 use load::LoadAnswer;
 use load::load;
+use requests::apply::apply;
 
-// Loads the description into the tables; a refusal is said.
-fn is_loaded(x: &[u8], image: &[u8], base: u32, t: &mut [u64]) -> bool {
-    let mut work = [0u64; WORK_CELLS];
-    match load(x, image, base, t, &mut work) {
-        LoadAnswer::Accepted => true,
-        LoadAnswer::Refused { no, place } => {
-            refused_load(x, no, place);
-            false
-        }
+// "base plus image above 2^32"
+const SIZES: u8 = 20;
+
+// Carries out the command on the image and the tables of its description.
+fn run_command(command: Command, x: &[u8], image: &mut [u8], base: u32, t: &[u64]) -> Ending {
+    match command {
+        Command::List => list(x, image, base, t),
+        Command::Get => get(x, image, base, t),
+        Command::Set => set(x, image, base, t),
+        Command::Apply => apply(x, image, base, t),
+        Command::Help => Ending::Failed,
+        Command::Unknown => Ending::Failed,
     }
 }
 
-// Loads, and carries out the command on the image.
-fn run_loaded(command: Command, x: &[u8], image: &mut [u8], base: u32) {
+// Loads the description, and carries out the command on the image.
+fn run_loaded(command: Command, x: &[u8], image: &mut [u8], base: u32) -> Ending {
     let mut t = [0u64; TABLE_CELLS];
-    if is_loaded(x, image, base, &mut t) {
-        match command {
-            Command::List => list(x, image, base, &t),
-            Command::Get => get(x, image, base, &t),
-            Command::Set => set(x, image, base, &t),
-            Command::Apply => apply(x, image, base, &t),
-            Command::Usage => {}
-            Command::Unknown => {}
-        }
+    let mut work = [0u64; WORK_CELLS];
+    match load(x, image, base, &mut t, &mut work) {
+        LoadAnswer::Accepted => run_command(command, x, image, base, &t),
+        LoadAnswer::Refused { no, place } => refused_load(x, no, place),
     }
 }
 
 // The image is the first m bytes of its buffer.
-fn run_image(command: Command, x: &[u8], image: &mut [u8], m: usize, base: u32) {
+fn run_image(command: Command, x: &[u8], image: &mut [u8], m: usize, base: u32) -> Ending {
     if IMAGE_BYTES < m {
-        refused_size(b"the image", IMAGE_BYTES);
-        return;
+        return refused_size(b"the image", IMAGE_BYTES);
     }
     if m <= image.len() {
-        run_loaded(command, x, &mut image[0..m], base);
+        return run_loaded(command, x, &mut image[0..m], base);
     }
+    Ending::Failed
 }
 
 // The image is read beside the description.
-fn run_text(command: Command, x: &[u8], base: u32) {
+fn run_text(command: Command, x: &[u8], base: u32) -> Ending {
     let mut image = [0u8; IMAGE_ROOM];
     match read_file(IMAGE, &mut image) {
         FileRead::Bytes(m) => run_image(command, x, &mut image, m, base),
-        FileRead::Nothing => {}
+        FileRead::Nothing => Ending::Failed,
     }
 }
 
-// Reads the base address and the description, and goes on with the image.
-pub fn run(command: Command) {
-    let NumberTyped::Number(base) = base_typed() else {
-        return;
-    };
+// The description is read, and then the image.
+fn run_from(command: Command, base: u32) -> Ending {
     let mut text = [0u8; TEXT_ROOM];
     match read_file(DESCRIPTION, &mut text) {
         FileRead::Bytes(n) => {
             if TEXT_BYTES < n {
-                refused_size(b"the description", TEXT_BYTES);
-                return;
+                return refused_size(b"the description", TEXT_BYTES);
             }
-            run_text(command, front(&text, n), base);
+            run_text(command, front(&text, n), base)
         }
-        FileRead::Nothing => {}
+        FileRead::Nothing => Ending::Failed,
+    }
+}
+
+// Says that the base address is no number.
+fn no_base() -> Ending {
+    let mut word = [0u8; WORD_ROOM];
+    let n = os::arg(BASE, &mut word);
+    error_about(b"the base address is no whole number: ", front(&word, n))
+}
+
+// Takes the base address, and goes on with the files.
+pub fn run(command: Command) -> Ending {
+    match base_typed() {
+        BaseTyped::Address(base) => run_from(command, base),
+        BaseTyped::TooLarge => refused(SIZES),
+        BaseTyped::Nothing => no_base(),
     }
 }

@@ -1,17 +1,10 @@
 // The command `set`: one write.
-use crate::lines::print_afresh;
-use crate::requested::ElementTyped;
-use crate::requested::NO_WAY;
-use crate::requested::Way;
-use crate::requested::element_named;
-use crate::requested::error_of;
-use crate::requested::way_of;
-use crate::requested::write_one;
 use console::arguments::INDEX;
 use console::arguments::NAME;
 use console::arguments::PART;
 use console::arguments::VALUE;
 use console::arguments::WAY;
+use console::ending::Ending;
 use console::message::refused;
 use console::replace::is_kept;
 use console::sizes::LINES;
@@ -20,6 +13,14 @@ use console::sizes::front;
 use list::check::group_of;
 use list::make::make_list;
 use list::write::CallAnswer;
+use printing::lines::print_afresh;
+use requests::requested::ElementTyped;
+use requests::requested::NO_WAY;
+use requests::requested::Way;
+use requests::requested::element_named;
+use requests::requested::error_of;
+use requests::requested::way_of;
+use requests::requested::write_one;
 
 // Writes to the kept list and to the image, replaces its file, and writes the lines that were worked out afresh.
 fn set_kept(
@@ -36,7 +37,7 @@ fn set_kept(
     index: u32,
     is_raw: bool,
     value: &[u8],
-) {
+) -> Ending {
     match write_one(
         x,
         image,
@@ -54,7 +55,7 @@ fn set_kept(
     ) {
         CallAnswer::Done => {
             if is_kept(image) {
-                print_afresh(
+                return print_afresh(
                     x,
                     image,
                     base,
@@ -67,6 +68,7 @@ fn set_kept(
                     index,
                 );
             }
+            Ending::Failed
         }
         CallAnswer::Refused { no } => refused(no),
     }
@@ -83,7 +85,7 @@ fn set_element(
     index: u32,
     is_raw: bool,
     value: &[u8],
-) {
+) -> Ending {
     let mut raw = [0i64; LINES];
     let mut state = [0u8; LINES];
     let mut first = [0i64; LINES];
@@ -118,7 +120,15 @@ fn set_element(
 }
 
 // Takes the way and the value from the arguments.
-fn set_typed(x: &[u8], image: &mut [u8], base: u32, t: &[u64], object: u32, part: u8, index: u32) {
+fn set_typed(
+    x: &[u8],
+    image: &mut [u8],
+    base: u32,
+    t: &[u64],
+    object: u32,
+    part: u8,
+    index: u32,
+) -> Ending {
     let mut word = [0u8; WORD_ROOM];
     let mut value = [0u8; WORD_ROOM];
     let n = os::arg(WAY, &mut word);
@@ -151,7 +161,7 @@ fn set_typed(x: &[u8], image: &mut [u8], base: u32, t: &[u64], object: u32, part
 }
 
 // Writes the element that the arguments name.
-pub fn set(x: &[u8], image: &mut [u8], base: u32, t: &[u64]) {
+pub fn set(x: &[u8], image: &mut [u8], base: u32, t: &[u64]) -> Ending {
     let mut name = [0u8; WORD_ROOM];
     let mut letter = [0u8; WORD_ROOM];
     let mut number = [0u8; WORD_ROOM];

@@ -1,16 +1,17 @@
 // The program's arguments: the command, the base address, an element's part and index.
-use crate::message::error_about;
 use crate::sizes::WORD_ROOM;
 use crate::sizes::front;
 use number::whole::WholeAnswer;
 use runs::whole::whole_of;
 
 // Where each argument stands.
+pub const COMMAND: usize = 1;
+
 pub const DESCRIPTION: usize = 2;
 
 pub const IMAGE: usize = 3;
 
-const BASE: usize = 4;
+pub const BASE: usize = 4;
 
 pub const NAME: usize = 5;
 
@@ -24,15 +25,6 @@ pub const WAY: usize = 8;
 
 pub const VALUE: usize = 9;
 
-// How many words each command has, the program's name among them.
-const LIST_WORDS: usize = 5;
-
-const GET_WORDS: usize = 8;
-
-const SET_WORDS: usize = 10;
-
-const APPLY_WORDS: usize = 6;
-
 // The greatest base address and the greatest index.
 const MOST_BASE: u64 = 4294967295;
 
@@ -40,8 +32,11 @@ const MOST_INDEX: u64 = 4294967295;
 
 const MOST_TYPED: u64 = 18446744073709551615;
 
+// How many hexadecimal figures a number below 2^32 has at most.
+const MOST_FIGURES: usize = 8;
+
 pub enum Command {
-    Usage,
+    Help,
     Unknown,
     List,
     Get,
@@ -51,6 +46,13 @@ pub enum Command {
 
 pub enum NumberTyped {
     Number(u32),
+    Nothing,
+}
+
+// A base address that is typed: one below 2^32, a number of 2^32 or more, or no number.
+pub enum BaseTyped {
+    Address(u32),
+    TooLarge,
     Nothing,
 }
 
@@ -71,48 +73,133 @@ pub fn is_same(a: &[u8], b: &[u8]) -> bool {
     true
 }
 
-// The command that a word names, where it has so many words.
-fn command_of(word: &[u8], words: usize) -> Command {
-    if is_same(word, b"list") & (words == LIST_WORDS) {
+// Whether a word asks for help.
+fn is_help(word: &[u8]) -> bool {
+    is_same(word, b"help") | is_same(word, b"--help") | is_same(word, b"-h")
+}
+
+// The command that a word names.
+fn command_of(word: &[u8]) -> Command {
+    if is_same(word, b"list") {
         return Command::List;
     }
-    if is_same(word, b"get") & (words == GET_WORDS) {
+    if is_same(word, b"get") {
         return Command::Get;
     }
-    if is_same(word, b"set") & (words == SET_WORDS) {
+    if is_same(word, b"set") {
         return Command::Set;
     }
-    if is_same(word, b"apply") & (words == APPLY_WORDS) {
+    if is_same(word, b"apply") {
         return Command::Apply;
+    }
+    if is_help(word) {
+        return Command::Help;
     }
     Command::Unknown
 }
 
-// The command that the program was called with.
+// The command that the program was called with; help where there is none.
 pub fn command_typed() -> Command {
-    let words = os::arg_count();
-    if words < 2 {
-        return Command::Usage;
+    if os::arg_count() < 2 {
+        return Command::Help;
     }
     let mut word = [0u8; WORD_ROOM];
-    let n = os::arg(1, &mut word);
-    command_of(front(&word, n), words)
+    let n = os::arg(COMMAND, &mut word);
+    command_of(front(&word, n))
 }
 
-// The base address, or an error said.
-pub fn base_typed() -> NumberTyped {
-    let mut word = [0u8; WORD_ROOM];
-    let n = os::arg(BASE, &mut word);
-    match whole_of(front(&word, n), MOST_BASE) {
-        WholeAnswer::Number(b) => NumberTyped::Number((b % 4294967296) as u32),
-        WholeAnswer::Refused { no: _ } => {
-            error_about(
-                b"the base address is no whole number below 2^32: ",
-                front(&word, n),
-            );
-            NumberTyped::Nothing
+// How many words a command has, the program's name among them; help has any number.
+fn words_of(command: Command) -> usize {
+    match command {
+        Command::List => 5,
+        Command::Get => 8,
+        Command::Set => 10,
+        Command::Apply => 6,
+        Command::Help => 0,
+        Command::Unknown => 0,
+    }
+}
+
+// Whether a command was called with the words that it has.
+pub fn has_words(command: Command) -> bool {
+    os::arg_count() == words_of(command)
+}
+
+// Whether a byte is a figure of a decimal or of a hexadecimal number.
+fn is_figure(b: u8, hex: bool) -> bool {
+    let decimal = (48 <= b) & (b <= 57);
+    let letter = ((65 <= b) & (b <= 70)) | ((97 <= b) & (b <= 102));
+    decimal | (hex & letter)
+}
+
+// Whether a word has figures alone from a place on.
+fn are_figures(word: &[u8], from: usize, hex: bool) -> bool {
+    let mut i = from;
+    while i < word.len() {
+        if !is_figure(word[i], hex) {
+            return false;
+        }
+        i += 1;
+    }
+    true
+}
+
+// The place of the first byte from a place on that is no zero, or the length.
+fn past_zeros(word: &[u8], from: usize) -> usize {
+    let mut i = from;
+    while i < word.len() {
+        if word[i] != 48 {
+            return i;
+        }
+        i += 1;
+    }
+    word.len()
+}
+
+// What is left of a number after another is taken away, or nothing.
+fn minus(a: usize, b: usize) -> usize {
+    if b <= a { a - b } else { 0 }
+}
+
+// Whether a word has so many figures from a place on, needless zeros aside, that it writes a number of 2^32 or more.
+fn has_many(word: &[u8], from: usize, hex: bool) -> bool {
+    let first = past_zeros(word, from);
+    (MOST_FIGURES < minus(word.len(), first)) & are_figures(word, from, hex)
+}
+
+// Whether a word that was found to be no whole number of 64 bits writes a greater one.
+fn is_large(word: &[u8]) -> bool {
+    if 2 < word.len() {
+        if (word[0] == 48) & (word[1] == 120) {
+            return has_many(word, 2, true);
         }
     }
+    has_many(word, 0, false)
+}
+
+// The base address that a word writes.
+fn base_of(word: &[u8]) -> BaseTyped {
+    match whole_of(word, MOST_TYPED) {
+        WholeAnswer::Number(b) => {
+            if b <= MOST_BASE {
+                return BaseTyped::Address((b % 4294967296) as u32);
+            }
+            BaseTyped::TooLarge
+        }
+        WholeAnswer::Refused { no: _ } => {
+            if is_large(word) {
+                return BaseTyped::TooLarge;
+            }
+            BaseTyped::Nothing
+        }
+    }
+}
+
+// The base address that the program was called with.
+pub fn base_typed() -> BaseTyped {
+    let mut word = [0u8; WORD_ROOM];
+    let n = os::arg(BASE, &mut word);
+    base_of(front(&word, n))
 }
 
 // The index that a word names; one that no element has where it is greater than 32 bits hold.

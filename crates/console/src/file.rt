@@ -1,4 +1,5 @@
 // Reading the files that the arguments name.
+use crate::ending::Ending;
 use crate::message::error_about;
 use crate::sizes::WORD_ROOM;
 use crate::sizes::front;
@@ -19,7 +20,7 @@ fn cause(error: i32) -> u8 {
 }
 
 // Says why a file cannot be read.
-fn unreadable(error: i32, path: &[u8]) {
+fn unreadable(error: i32, path: &[u8]) -> Ending {
     match cause(error) {
         1 => error_about(b"there is no such file: ", path),
         2 => error_about(b"reading is not permitted: ", path),

@@ -1,6 +1,10 @@
 // The program's edge: its arguments, its files, and what it says. Nothing of the reader rests on it.
 pub mod arguments;
+mod buffer;
+pub mod ending;
+mod excerpt;
 pub mod file;
 pub mod message;
 pub mod replace;
 pub mod sizes;
+pub mod usage;

@@ -1,26 +1,21 @@
 // What the program says: refusals with number, place, line, column and reason; errors in words.
+use crate::ending::Ending;
+use crate::ending::complain;
+use crate::ending::say;
+use crate::ending::say_number;
+use crate::excerpt::say_excerpt;
 use ask::spot::spot_of;
-use libc::STDOUT_FILENO;
 
 // "a lent buffer is too short, text or image too long, or base plus image above 2^32": it has no place in the text.
 const SIZES: u8 = 20;
 
-// Writes words.
-pub fn say(words: &[u8]) {
-    io::write_all(STDOUT_FILENO, words);
-}
-
-// Writes a number.
-pub fn say_number(n: u64) {
-    io::print_decimal(STDOUT_FILENO, n);
-}
-
 // An error that concerns a word.
-pub fn error_about(words: &[u8], word: &[u8]) {
-    say(b"error: ");
-    say(words);
-    say(word);
-    say(b"\n");
+pub fn error_about(words: &[u8], word: &[u8]) -> Ending {
+    complain(b"error: ");
+    complain(words);
+    complain(word);
+    complain(b"\n");
+    Ending::Failed
 }
 
 // The reason of refusals 1 to 6.
@@ -95,28 +90,29 @@ fn say_place(no: u8, place: usize) {
 }
 
 // A refusal that has no place in the text: "20 and refusals outside the load have place 0".
-pub fn refused(no: u8) {
+pub fn refused(no: u8) -> Ending {
     say_place(no, 0);
     say(b": ");
     say_reason(no);
     say(b"\n");
+    Ending::Refused
 }
 
 // A refusal 20 for a file that is longer than the program's sizes.
-pub fn refused_size(what: &[u8], most: usize) {
+pub fn refused_size(what: &[u8], most: usize) -> Ending {
     say_place(SIZES, 0);
     say(b": ");
     say(what);
     say(b" is longer than ");
     say_number(most as u64);
     say(b" bytes, the most that this program takes\n");
+    Ending::Refused
 }
 
-// A load's refusal, with its place as line and column of the description.
-pub fn refused_load(x: &[u8], no: u8, place: usize) {
+// A load's refusal, with its place as line and column of the description, and that line with a mark under the column.
+pub fn refused_load(x: &[u8], no: u8, place: usize) -> Ending {
     if no == SIZES {
-        refused(no);
-        return;
+        return refused(no);
     }
     let spot = spot_of(x, place);
     say_place(no, place);
@@ -127,4 +123,6 @@ pub fn refused_load(x: &[u8], no: u8, place: usize) {
     say(b"): ");
     say_reason(no);
     say(b"\n");
+    say_excerpt(x, place, spot.column);
+    Ending::Refused
 }

@@ -2,31 +2,34 @@
 use commands::run::run;
 use console::arguments::Command;
 use console::arguments::command_typed;
-use console::message::say;
+use console::arguments::has_words;
+use console::ending::Ending;
+use console::ending::end;
+use console::usage::no_command;
+use console::usage::print_usage;
+use console::usage::wrong_words;
 
-// Says how the program is called.
-fn print_usage() {
-    say(b"obarsivel list  DESC IMAGE BASE\n");
-    say(b"obarsivel get   DESC IMAGE BASE NAME PART INDEX\n");
-    say(b"obarsivel set   DESC IMAGE BASE NAME PART INDEX raw|phys VALUE\n");
-    say(b"obarsivel apply DESC IMAGE BASE REQUESTS\n");
-    say(
-        b"DESC is an A2L description, IMAGE a memory image's file, BASE the address of its first byte (decimal or 0x hex).\n",
-    );
-    say(
-        b"PART is x, y or v; REQUESTS a file of lines NAME PART INDEX raw|phys VALUE, parted by tabs.\n",
-    );
+// Runs a command that has the words it needs.
+fn run_whole(command: Command) -> Ending {
+    if has_words(command) {
+        return run(command);
+    }
+    wrong_words(command)
+}
+
+// Runs what the program was called with.
+fn run_typed() -> Ending {
+    let command = command_typed();
+    match command {
+        Command::Help => print_usage(),
+        Command::Unknown => no_command(),
+        Command::List => run_whole(Command::List),
+        Command::Get => run_whole(Command::Get),
+        Command::Set => run_whole(Command::Set),
+        Command::Apply => run_whole(Command::Apply),
+    }
 }
 
 fn main() {
-    match command_typed() {
-        Command::Usage => print_usage(),
-        Command::Unknown => say(
-            b"error: the arguments fit no command; obarsivel without arguments prints its usage\n",
-        ),
-        Command::List => run(Command::List),
-        Command::Get => run(Command::Get),
-        Command::Set => run(Command::Set),
-        Command::Apply => run(Command::Apply),
-    }
+    end(run_typed());
 }

@@ -1,12 +1,10 @@
 // Printing lines of the kept list.
+use console::ending::Ending;
+use console::ending::say;
 use console::message::refused;
-use console::message::say;
 use console::sizes::LINE_ROOM;
-use console::sizes::LINES;
 use console::sizes::front;
 use list::bytes::touches;
-use list::make::make_list;
-use list::write::CallAnswer;
 use listing::element::line;
 use listing::listing::ListingAnswer;
 use tables::form::GROUP;
@@ -16,8 +14,8 @@ use tables::group::bytes_of;
 use tables::group::elements_of;
 use tables::group::place_of;
 
-// Writes the line of one element.
-pub fn print_line(
+// Writes the line of one element; false where it is refused instead.
+pub fn is_line_printed(
     x: &[u8],
     image: &[u8],
     base: u32,
@@ -29,7 +27,7 @@ pub fn print_line(
     state: &[u8],
     first: &[i64],
     second: &[i64],
-) {
+) -> bool {
     let mut out = [0u8; LINE_ROOM];
     match line(
         x,
@@ -45,13 +43,19 @@ pub fn print_line(
         second,
         &mut out,
     ) {
-        ListingAnswer::Written(n) => say(front(&out, n)),
-        ListingAnswer::Refused { no } => refused(no),
+        ListingAnswer::Written(n) => {
+            say(front(&out, n));
+            true
+        }
+        ListingAnswer::Refused { no } => {
+            refused(no);
+            false
+        }
     }
 }
 
-// Writes the line of element i of group g where all are wanted, or where it has one of so many bytes from lo on.
-fn print_picked(
+// Writes the line of element i of group g where all are wanted, or where it has one of so many bytes from lo on; false where it is refused.
+fn is_picked_printed(
     x: &[u8],
     image: &[u8],
     base: u32,
@@ -65,11 +69,11 @@ fn print_picked(
     many: u64,
     g: u16,
     i: u32,
-) {
+) -> bool {
     if all | touches(t, lo, many, g, i) {
         let object = (g / PARTS) as u32;
         let part = (g % PARTS) as u8;
-        print_line(
+        return is_line_printed(
             x,
             image,
             base,
@@ -83,10 +87,11 @@ fn print_picked(
             second,
         );
     }
+    true
 }
 
-// Writes the lines of a group: all of them, or those that have one of so many bytes from lo on.
-fn print_group(
+// Writes the lines of a group: all of them, or those that have one of so many bytes from lo on; false where one is refused.
+fn is_group_printed(
     x: &[u8],
     image: &[u8],
     base: u32,
@@ -99,11 +104,11 @@ fn print_group(
     lo: u64,
     many: u64,
     g: u16,
-) {
+) -> bool {
     let n = elements_of(t, g);
     let mut i: u32 = 0;
     while i < n {
-        print_picked(
+        if !is_picked_printed(
             x,
             image,
             base,
@@ -117,13 +122,16 @@ fn print_group(
             many,
             g,
             i,
-        );
+        ) {
+            return false;
+        }
         i += 1;
     }
+    true
 }
 
-// Writes the lines of all elements, or of those that have one of so many bytes from lo on.
-fn print_lines(
+// Writes the lines of all elements, or of those that have one of so many bytes from lo on; false where one is refused.
+fn are_lines_printed(
     x: &[u8],
     image: &[u8],
     base: u32,
@@ -135,11 +143,11 @@ fn print_lines(
     all: bool,
     lo: u64,
     many: u64,
-) {
+) -> bool {
     let n = count_of(t, GROUP);
     let mut g: u16 = 0;
     while g < n {
-        print_group(
+        if !is_group_printed(
             x,
             image,
             base,
@@ -152,9 +160,12 @@ fn print_lines(
             lo,
             many,
             g,
-        );
+        ) {
+            return false;
+        }
         g += 1;
     }
+    true
 }
 
 // Writes the whole listing of the kept list.
@@ -167,9 +178,12 @@ pub fn print_listing(
     state: &[u8],
     first: &[i64],
     second: &[i64],
-) {
+) -> Ending {
     say(b"name\tpart\tindex\traw\tphysical\n");
-    print_lines(x, image, base, t, raw, state, first, second, true, 0, 0);
+    if are_lines_printed(x, image, base, t, raw, state, first, second, true, 0, 0) {
+        return Ending::Done;
+    }
+    Ending::Refused
 }
 
 // Writes the lines that a write of element i of group g worked out afresh.
@@ -184,10 +198,10 @@ pub fn print_afresh(
     second: &[i64],
     g: u16,
     i: u32,
-) {
+) -> Ending {
     let lo = place_of(t, g, i);
     let many = bytes_of(t, g) as u64;
-    print_lines(
+    if are_lines_printed(
         x,
         image,
         base,
@@ -199,26 +213,8 @@ pub fn print_afresh(
         false,
         lo,
         many,
-    );
-}
-
-// The command `list`: the whole listing of an image.
-pub fn list(x: &[u8], image: &[u8], base: u32, t: &[u64]) {
-    let mut raw = [0i64; LINES];
-    let mut state = [0u8; LINES];
-    let mut first = [0i64; LINES];
-    let mut second = [0i64; LINES];
-    match make_list(
-        x,
-        image,
-        base,
-        t,
-        &mut raw,
-        &mut state,
-        &mut first,
-        &mut second,
     ) {
-        CallAnswer::Done => print_listing(x, image, base, t, &raw, &state, &first, &second),
-        CallAnswer::Refused { no } => refused(no),
+        return Ending::Done;
     }
+    Ending::Refused
 }

@@ -1,24 +1,27 @@
 // The command `apply`: a file of requests, a line each.
-use crate::lines::print_listing;
 use crate::requested::ElementTyped;
 use crate::requested::NO_FIELDS;
 use crate::requested::NO_WAY;
 use crate::requested::SAID;
 use crate::requested::Way;
+use crate::requested::complain_of;
 use crate::requested::element_named;
-use crate::requested::say_wrong;
 use crate::requested::way_of;
 use crate::requested::write_one;
 use ask::field::field_count;
 use ask::field::field_of;
 use ask::field::line_end;
 use console::arguments::REQUESTS;
+use console::ending::Ending;
+use console::ending::complain;
+use console::ending::complain_number;
+use console::ending::say;
+use console::ending::say_number;
 use console::file::FileRead;
 use console::file::read_file;
+use console::message::error_about;
 use console::message::refused;
 use console::message::refused_size;
-use console::message::say;
-use console::message::say_number;
 use console::replace::is_kept;
 use console::sizes::LINES;
 use console::sizes::TEXT_BYTES;
@@ -26,6 +29,7 @@ use console::sizes::TEXT_ROOM;
 use console::sizes::front;
 use list::make::make_list;
 use list::write::CallAnswer;
+use printing::lines::print_listing;
 
 // How many fields a request has, and which they are.
 const FIELDS: usize = 5;
@@ -43,8 +47,10 @@ const VALUE: usize = 4;
 // Room for the answers: a request has ten bytes or more.
 const ANSWERS: usize = 4096;
 
-// An answer's number: 0 for a write that is done.
+// An answer's number: 0 for a write that is done, the refusal's, or one that no refusal has for a line that is no request.
 const DONE: u8 = 0;
+
+const NO_REQUEST: u8 = 255;
 
 // A request without its value, or what is wrong with it.
 pub enum Request {
@@ -117,10 +123,10 @@ fn is_request(line: &[u8], n: usize, x: &[u8], image: &[u8], base: u32, t: &[u64
         } => true,
         Request::Wrong { why } => {
             if why != SAID {
-                say(b"error: line ");
-                say_number(n as u64);
-                say(b" of the requests: ");
-                say_wrong(
+                complain(b"error: line ");
+                complain_number(n as u64);
+                complain(b" of the requests: ");
+                complain_of(
                     why,
                     field_of(line, NAME),
                     field_of(line, INDEX),
@@ -191,7 +197,7 @@ fn answer_to(
                 CallAnswer::Refused { no } => no,
             }
         }
-        Request::Wrong { why: _ } => DONE,
+        Request::Wrong { why: _ } => NO_REQUEST,
     }
 }
 
@@ -255,15 +261,24 @@ fn has_done(answers: &[u8]) -> bool {
     false
 }
 
+// Whether an answer is a refusal.
+fn is_refusal(no: u8) -> bool {
+    (no != DONE) & (no != NO_REQUEST)
+}
+
 // Writes one answer.
 fn print_answer(no: u8) {
     if no == DONE {
         say(b"ok\n");
         return;
     }
-    say(b"refused ");
-    say_number(no as u64);
-    say(b"\n");
+    if is_refusal(no) {
+        say(b"refused ");
+        say_number(no as u64);
+        say(b"\n");
+        return;
+    }
+    say(b"not carried out\n");
 }
 
 // Writes the answers, a line each.
@@ -273,6 +288,23 @@ fn print_answers(answers: &[u8]) {
         print_answer(answers[i]);
         i += 1;
     }
+}
+
+// How the answers let the program end: refused where a write is, failed where a line was not carried out.
+fn ending_of(answers: &[u8]) -> Ending {
+    let mut refusals = false;
+    let mut i: usize = 0;
+    while i < answers.len() {
+        if answers[i] == NO_REQUEST {
+            return Ending::Failed;
+        }
+        refusals = refusals | is_refusal(answers[i]);
+        i += 1;
+    }
+    if refusals {
+        return Ending::Refused;
+    }
+    Ending::Done
 }
 
 // Whether the image's file holds what the answers say: replaced where a write is done, left where none is.
@@ -294,8 +326,8 @@ fn apply_kept(
     state: &mut [u8],
     first: &mut [i64],
     second: &mut [i64],
-) {
-    let mut answers = [0u8; ANSWERS];
+) -> Ending {
+    let mut answers = [NO_REQUEST; ANSWERS];
     let n = apply_all(
         q,
         x,
@@ -308,14 +340,22 @@ fn apply_kept(
         second,
         &mut answers,
     );
+    if ANSWERS < n {
+        return error_about(b"there are more requests than answers can be kept of", b"");
+    }
     if is_settled(front(&answers, n), image) {
         print_answers(front(&answers, n));
-        print_listing(x, image, base, t, raw, state, first, second);
+        return match print_listing(x, image, base, t, raw, state, first, second) {
+            Ending::Done => ending_of(front(&answers, n)),
+            Ending::Refused => Ending::Refused,
+            Ending::Failed => Ending::Failed,
+        };
     }
+    Ending::Failed
 }
 
 // Makes the list that is kept over the requests, which are all well formed.
-fn apply_requests(q: &[u8], x: &[u8], image: &mut [u8], base: u32, t: &[u64]) {
+fn apply_requests(q: &[u8], x: &[u8], image: &mut [u8], base: u32, t: &[u64]) -> Ending {
     let mut raw = [0i64; LINES];
     let mut state = [0u8; LINES];
     let mut first = [0i64; LINES];
@@ -346,18 +386,18 @@ fn apply_requests(q: &[u8], x: &[u8], image: &mut [u8], base: u32, t: &[u64]) {
 }
 
 // Reads the request file and carries it out; where a line is no request nothing at all is written.
-pub fn apply(x: &[u8], image: &mut [u8], base: u32, t: &[u64]) {
+pub fn apply(x: &[u8], image: &mut [u8], base: u32, t: &[u64]) -> Ending {
     let mut buffer = [0u8; TEXT_ROOM];
     match read_file(REQUESTS, &mut buffer) {
         FileRead::Bytes(n) => {
             if TEXT_BYTES < n {
-                refused_size(b"the request file", TEXT_BYTES);
-                return;
+                return refused_size(b"the request file", TEXT_BYTES);
             }
             if are_requests(front(&buffer, n), x, image, base, t) {
-                apply_requests(front(&buffer, n), x, image, base, t);
+                return apply_requests(front(&buffer, n), x, image, base, t);
             }
+            Ending::Failed
         }
-        FileRead::Nothing => {}
+        FileRead::Nothing => Ending::Failed,
     }
 }

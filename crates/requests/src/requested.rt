@@ -5,15 +5,16 @@ use ask::typed::raw_typed;
 use console::arguments::NumberTyped;
 use console::arguments::index_of;
 use console::arguments::is_same;
+use console::ending::Ending;
+use console::ending::complain;
 use console::message::refused;
-use console::message::say;
 use list::search::SearchAnswer;
 use list::search::search;
 use list::write::CallAnswer;
 use list::write::write_physical;
 use list::write::write_raw;
 
-// What is wrong with a request: it was said already, its fields, its index, its name, its way.
+// What is wrong with a request: a refusal that was said already, its fields, its index, its name, its way.
 pub const SAID: u8 = 0;
 
 pub const NO_FIELDS: u8 = 1;
@@ -76,34 +77,35 @@ pub fn way_of(word: &[u8]) -> Way {
 }
 
 // Says what is wrong with a request of these words.
-pub fn say_wrong(why: u8, name: &[u8], index: &[u8], way: &[u8]) {
+pub fn complain_of(why: u8, name: &[u8], index: &[u8], way: &[u8]) {
     match why {
-        NO_FIELDS => say(
+        NO_FIELDS => complain(
             b"a request has five fields parted by tabs: NAME PART INDEX raw|phys VALUE",
         ),
         NO_INDEX => {
-            say(b"the index is no whole number: ");
-            say(index);
+            complain(b"the index is no whole number: ");
+            complain(index);
         }
         NO_NAME => {
-            say(b"no object has the name ");
-            say(name);
+            complain(b"no object has the name ");
+            complain(name);
         }
         _ => {
-            say(b"a value is written as raw or phys, not as ");
-            say(way);
+            complain(b"a value is written as raw or phys, not as ");
+            complain(way);
         }
     }
-    say(b"\n");
+    complain(b"\n");
 }
 
-// Says what is wrong with the words of an argument list.
-pub fn error_of(why: u8, name: &[u8], index: &[u8], way: &[u8]) {
+// Says what is wrong with the words of an argument list, where it was not said already.
+pub fn error_of(why: u8, name: &[u8], index: &[u8], way: &[u8]) -> Ending {
     if why == SAID {
-        return;
+        return Ending::Refused;
     }
-    say(b"error: ");
-    say_wrong(why, name, index, way);
+    complain(b"error: ");
+    complain_of(why, name, index, way);
+    Ending::Failed
 }
 
 // Carries out one write. A raw value that is no number is 15 in its place in the order of refusals, as an asked value without a form is.

@@ -1,5 +1,5 @@
-use Rattle.commands.proofs.lines.print_group.Statement.{statement}
-use Rattle.commands.proofs.lines.print_group.Tie as tie
+use Rattle.printing.proofs.lines.is_group_printed.Statement.{statement}
+use Rattle.printing.proofs.lines.is_group_printed.Tie as tie
 use borrow.Author.Needs.{needs}
 use Prim.Native.Nat.{_-_}
 
@@ -9,8 +9,8 @@ Inv-loop x image base t raw state first second all lo many g n i₀ i = Unit
 abbrev μ-loop : tie.MeasureT-loop
 μ-loop x image base t raw state first second all lo many g n i₀ i = n - i
 
-pub print-group-spec : {M : Type 1} → statement M
-print-group-spec =
+pub is-group-printed-spec : {M : Type 1} → statement M
+is-group-printed-spec =
     tie.close
     (tie.spec
     Inv-loop
@@ -18,6 +18,7 @@ print-group-spec =
     (λ c κs. search needs)
     (λ c. search needs)
     (λ c κs. search needs)
+    (λ c. search needs)
     (λ c. search needs)
     (λ c. search needs)
     (λ c. search needs)

@@ -1,17 +1,17 @@
-use Rattle.commands.proofs.apply.print_answers.Statement.{statement}
-use Rattle.commands.proofs.apply.print_answers.Tie as tie
+use Rattle.console.proofs.arguments.are_figures.Statement.{statement}
+use Rattle.console.proofs.arguments.are_figures.Tie as tie
 use borrow.Author.Needs.{needs}
 use Prim.Native.Nat.{_-_}
 use lib.ListN.{length}
 
 abbrev Inv-loop : tie.InvT-loop
-Inv-loop answers i₀ i = Unit
+Inv-loop word from hex i₀ i = Unit
 
 abbrev μ-loop : tie.MeasureT-loop
-μ-loop answers i₀ i = length answers - i
+μ-loop word from hex i₀ i = length word - i
 
-pub print-answers-spec : {M : Type 1} → statement M
-print-answers-spec =
+pub are-figures-spec : {M : Type 1} → statement M
+are-figures-spec =
     tie.close
     (tie.spec
     Inv-loop
@@ -19,6 +19,7 @@ print-answers-spec =
     (λ c. search needs)
     (λ c. search needs)
     (λ c κs. search needs)
+    (λ c. search needs)
     (λ c. search needs)
     (λ c. search needs)
     (λ c. search needs)

@@ -1,17 +1,17 @@
-use Rattle.commands.proofs.apply.has_done.Statement.{statement}
-use Rattle.commands.proofs.apply.has_done.Tie as tie
+use Rattle.console.proofs.arguments.past_zeros.Statement.{statement}
+use Rattle.console.proofs.arguments.past_zeros.Tie as tie
 use borrow.Author.Needs.{needs}
 use Prim.Native.Nat.{_-_}
 use lib.ListN.{length}
 
 abbrev Inv-loop : tie.InvT-loop
-Inv-loop answers i₀ i = Unit
+Inv-loop word from i₀ i = Unit
 
 abbrev μ-loop : tie.MeasureT-loop
-μ-loop answers i₀ i = length answers - i
+μ-loop word from i₀ i = length word - i
 
-pub has-done-spec : {M : Type 1} → statement M
-has-done-spec =
+pub past-zeros-spec : {M : Type 1} → statement M
+past-zeros-spec =
     tie.close
     (tie.spec
     Inv-loop

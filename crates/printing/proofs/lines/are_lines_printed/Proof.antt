@@ -1,5 +1,5 @@
-use Rattle.commands.proofs.lines.print_lines.Statement.{statement}
-use Rattle.commands.proofs.lines.print_lines.Tie as tie
+use Rattle.printing.proofs.lines.are_lines_printed.Statement.{statement}
+use Rattle.printing.proofs.lines.are_lines_printed.Tie as tie
 use borrow.Author.Needs.{needs}
 use Prim.Native.Nat.{_-_}
 
@@ -9,8 +9,8 @@ Inv-loop x image base t raw state first second all lo many n g₀ g = Unit
 abbrev μ-loop : tie.MeasureT-loop
 μ-loop x image base t raw state first second all lo many n g₀ g = n - g
 
-pub print-lines-spec : {M : Type 1} → statement M
-print-lines-spec =
+pub are-lines-printed-spec : {M : Type 1} → statement M
+are-lines-printed-spec =
     tie.close
     (tie.spec
     Inv-loop
@@ -18,6 +18,7 @@ print-lines-spec =
     (λ c κs. search needs)
     (λ c. search needs)
     (λ c κs. search needs)
+    (λ c. search needs)
     (λ c. search needs)
     (λ c. search needs)
     (λ c. search needs)

@@ -1,0 +1,25 @@
+use Rattle.requests.proofs.apply.has_done.Statement.{statement}
+use Rattle.requests.proofs.apply.has_done.Tie as tie
+use borrow.Author.Needs.{needs}
+use Prim.Native.Nat.{_-_}
+use lib.ListN.{length}
+
+abbrev Inv-loop : tie.InvT-loop
+Inv-loop answers i₀ i = Unit
+
+abbrev μ-loop : tie.MeasureT-loop
+μ-loop answers i₀ i = length answers - i
+
+pub has-done-spec : {M : Type 1} → statement M
+has-done-spec =
+    tie.close
+    (tie.spec
+    Inv-loop
+    μ-loop
+    (λ c. search needs)
+    (λ c. search needs)
+    (λ c. search needs)
+    (λ c. search needs)
+    (λ c. search needs)
+    (λ c. search needs)
+    (λ c. search needs))

@@ -1,5 +1,5 @@
-use Rattle.console.proofs.replace.put_figures.Statement.{statement}
-use Rattle.console.proofs.replace.put_figures.Tie as tie
+use Rattle.console.proofs.path.put.Statement.{statement}
+use Rattle.console.proofs.path.put.Tie as tie
 use borrow.Author.Needs.{needs}
 use Prim.Native.Nat.{_-_, _≤_}
 use lib.ListN.{length}
@@ -11,15 +11,14 @@ Inv-loop out₀ at s i₀ e₀ out i e = (i ≤ length s) × (length out ≡ len
 abbrev μ-loop : tie.MeasureT-loop
 μ-loop out₀ at s i₀ e₀ out i e = length s - i
 
-pub put-figures-spec : {M : Type 1} → statement M
-put-figures-spec =
+pub put-spec : {M : Type 1} → statement M
+put-spec =
     tie.close
     (tie.spec
     Inv-loop
     μ-loop
     (λ c. search needs)
     (λ c. search needs)
-    (λ c κs. search needs)
     (λ c κs. search needs)
     (λ c. search needs)
     (λ c. search needs)

@@ -1,5 +1,6 @@
-/* Ends the process by force right before its system call number STOP_AT of those that touch files (STOP_HALF: after half of that write),
-   so that a test can look at what a crash there leaves. With STOP_AT=0 it only counts, and writes the count to STOP_COUNT. */
+/* Stops the process right before its system call number STOP_AT of those that touch files, so that a test can look at what a crash there
+   leaves, or what another program does to it. It is ended by force; with STOP_HALF after half of that write; with STOP_RUN it goes on
+   after the shell has run that command. With STOP_AT=0 it only counts, and writes each call's name as a line to STOP_NAMES. */
 #define _GNU_SOURCE
 #include <dlfcn.h>
 #include <fcntl.h>
@@ -12,27 +13,27 @@
 
 static int calls;
 
-static int wanted(void) {
-    const char *at = getenv("STOP_AT");
-    return at ? atoi(at) : -1;
-}
-
 /* Counts a call; true where it is the one to stop at. */
-static int here(void) {
-    const char *path = getenv("STOP_COUNT");
+static int here(const char *name) {
+    const char *at = getenv("STOP_AT");
+    const char *path = getenv("STOP_NAMES");
     calls += 1;
     if (path) {
-        FILE *f = fopen(path, "w");
+        FILE *f = fopen(path, "a");
         if (f) {
-            fprintf(f, "%d\n", calls);
+            fprintf(f, "%s\n", name);
             fclose(f);
         }
     }
-    return calls == wanted();
+    return at && calls == atoi(at);
 }
 
 static void stop(void) {
-    kill(getpid(), SIGKILL);
+    const char *command = getenv("STOP_RUN");
+    if (!command) kill(getpid(), SIGKILL);
+    unsetenv("LD_PRELOAD");
+    unsetenv("STOP_AT");
+    if (system(command)) abort();
 }
 
 int open(const char *path, int flags, ...) {
@@ -42,7 +43,7 @@ int open(const char *path, int flags, ...) {
         va_start(rest, flags);
         mode = va_arg(rest, mode_t);
         va_end(rest);
-        if (here()) stop();
+        if (here("open")) stop();
     }
     int (*next)(const char *, int, ...) = dlsym(RTLD_NEXT, "open");
     return next(path, flags, mode);
@@ -50,7 +51,7 @@ int open(const char *path, int flags, ...) {
 
 ssize_t write(int fd, const void *bytes, size_t n) {
     ssize_t (*next)(int, const void *, size_t) = dlsym(RTLD_NEXT, "write");
-    if (here()) {
+    if (here("write")) {
         if (getenv("STOP_HALF")) next(fd, bytes, n / 2);
         stop();
     }
@@ -59,18 +60,36 @@ ssize_t write(int fd, const void *bytes, size_t n) {
 
 int fsync(int fd) {
     int (*next)(int) = dlsym(RTLD_NEXT, "fsync");
-    if (here()) stop();
+    if (here("fsync")) stop();
     return next(fd);
+}
+
+int fchmod(int fd, mode_t mode) {
+    int (*next)(int, mode_t) = dlsym(RTLD_NEXT, "fchmod");
+    if (here("fchmod")) stop();
+    return next(fd, mode);
+}
+
+int fchown(int fd, uid_t owner, gid_t group) {
+    int (*next)(int, uid_t, gid_t) = dlsym(RTLD_NEXT, "fchown");
+    if (here("fchown")) stop();
+    return next(fd, owner, group);
 }
 
 int close(int fd) {
     int (*next)(int) = dlsym(RTLD_NEXT, "close");
-    if (here()) stop();
+    if (here("close")) stop();
     return next(fd);
 }
 
 int rename(const char *from, const char *to) {
     int (*next)(const char *, const char *) = dlsym(RTLD_NEXT, "rename");
-    if (here()) stop();
+    if (here("rename")) stop();
     return next(from, to);
+}
+
+int unlink(const char *path) {
+    int (*next)(const char *) = dlsym(RTLD_NEXT, "unlink");
+    if (here("unlink")) stop();
+    return next(path);
 }

@@ -2,10 +2,10 @@
 // holds them, so that the next run finds what a run that was ended by force left.
 ghost use mathlib.Core.Path.{_≡_};
 ghost use lib.ListN.{length};
-use crate::path::put;
-use crate::path::put_byte;
-use crate::sizes::WORD_ROOM;
-use crate::sizes::front;
+use console::buffer::put;
+use console::buffer::put_byte;
+use console::sizes::WORD_ROOM;
+use console::sizes::front;
 
 // How many figures part a new file's name from those of others, and room to tell a longer note.
 pub const FIGURES: usize = 10;

@@ -1,5 +1,5 @@
-use Rattle.console.proofs.path.put.Statement.{statement}
-use Rattle.console.proofs.path.put.Tie as tie
+use Rattle.console.proofs.buffer.put.Statement.{statement}
+use Rattle.console.proofs.buffer.put.Tie as tie
 use borrow.Author.Needs.{needs}
 use Prim.Native.Nat.{_-_, _≤_}
 use lib.ListN.{length}

@@ -1,4 +1,4 @@
--- `console::status::status_of` meets its contract, which says nothing but that it ends and keeps within its memory: a walk of its MIR, by hand, since the borrow checker covers no reference to a struct.
+-- `files::status::status_of` meets its contract, which says nothing but that it ends and keeps within its memory: a walk of its MIR, by hand, since the borrow checker covers no reference to a struct.
 -- All that it knows of `blank`, of `libc::fstat` and of `part_of` is that each meets its contract. The local that holds the struct is lent for a lifetime that is made for the call (`lends-ref`), and is back once that is ended, at whatever the system left in it (`ref-back`).
 -- Assumes nothing.
 use mathlib.Core.Path.{refl}
@@ -45,25 +45,25 @@ use Rattle.libc.specs.Io.{Status as Answered}
 use Rattle.libc.specs.declared.types.stat.{stat}
 use Rattle.libc.proofs.types.stat as S
 use Rattle.libc.proofs.types.stat.Laws as S′
-use Rattle.console.specs.declared.status.Status.{Status}
-use Rattle.console.proofs.status.Status as T
-use Rattle.console.proofs.status.Status.Laws as T′
-use Rattle.console.proofs.status.blank as blank
-use Rattle.console.proofs.status.blank.Symbol as blank-def
-use Rattle.console.proofs.status.blank.Symbol.{name as #console·status·blank}
-use Rattle.console.proofs.status.blank.Met as blank-thm
+use Rattle.files.specs.declared.status.Status.{Status}
+use Rattle.files.proofs.status.Status as T
+use Rattle.files.proofs.status.Status.Laws as T′
+use Rattle.files.proofs.status.blank as blank
+use Rattle.files.proofs.status.blank.Symbol as blank-def
+use Rattle.files.proofs.status.blank.Symbol.{name as #files·status·blank}
+use Rattle.files.proofs.status.blank.Met as blank-thm
 use Rattle.libc.proofs.fstat as fstat
 use Rattle.libc.proofs.fstat.Symbol as fstat-def
 use Rattle.libc.proofs.fstat.Symbol.{name as #libc·fstat}
 use Rattle.libc.proofs.fstat.Met as fstat-thm
-use Rattle.console.proofs.status.part_of as part-of
-use Rattle.console.proofs.status.part_of.Symbol as part-of-def
-use Rattle.console.proofs.status.part_of.Symbol.{name as #console·status·part-of}
-use Rattle.console.proofs.status.part_of.Met as part-of-thm
-use Rattle.console.proofs.status.status_of.Key.{name as #console·status·status-of}
-use Rattle.console.proofs.status.status_of as status-of
-use Rattle.console.proofs.status.status_of.Statement as stated
-use Rattle.console.proofs.status.status_of.Code as code
+use Rattle.files.proofs.status.part_of as part-of
+use Rattle.files.proofs.status.part_of.Symbol as part-of-def
+use Rattle.files.proofs.status.part_of.Symbol.{name as #files·status·part-of}
+use Rattle.files.proofs.status.part_of.Met as part-of-thm
+use Rattle.files.proofs.status.status_of.Key.{name as #files·status·status-of}
+use Rattle.files.proofs.status.status_of as status-of
+use Rattle.files.proofs.status.status_of.Statement as stated
+use Rattle.files.proofs.status.status_of.Code as code
 
 abbrev stayed : Stays (status-of.ended .signature .params) (status-of.ended .kept)
 stayed = (stay-none (λ _. i32) yes, tt)
@@ -121,7 +121,7 @@ module _ {M : Type 1} (𝓤 : URA M) (H : Heap 𝓤) (A : Atoms 𝓤) (W : Given
   goes-part r v h u =
       qed W (‵ (i32 .own r (v ∷ [])) ∷ ‵ (S.the-row .own h (u ∷ [])) ∷ []) ∵ nothing ! $ move ! (2 ∷ 0 ∷ []) $ join ! $ move ! (1 ∷ 0 ∷ []) $ join ! $ nothing ! $ join ! $ frame ! $ done !
 
-  module _ (C : Calls 𝓤 H) (Λ : Loops 𝓤 H) (fm : FmC 𝓤 H (W .laws) C) (known-blank : Triple 𝓤 (C #console·status·blank) (Blank 𝓤 H A mem″ run)) (known-fstat : Triple 𝓤 (C #libc·fstat) (Fstat 𝓤 H A mem″ run)) (known-part : Triple 𝓤 (C #console·status·part-of) (PartOf 𝓤 H A mem″ run)) where
+  module _ (C : Calls 𝓤 H) (Λ : Loops 𝓤 H) (fm : FmC 𝓤 H (W .laws) C) (known-blank : Triple 𝓤 (C #files·status·blank) (Blank 𝓤 H A mem″ run)) (known-fstat : Triple 𝓤 (C #libc·fstat) (Fstat 𝓤 H A mem″ run)) (known-part : Triple 𝓤 (C #files·status·part-of) (PartOf 𝓤 H A mem″ run)) where
     walk : ent 𝓤 (onEntry 𝓤 H A status-of.signature tt tt (z, tt) (fd ∷ [], tt)) (WpFn 𝓤 H C Λ code.function (fd ∷ []) Post)
     walk =
         qed W (‵ ftrue ∷ ‵ (owns (i32 ∷ []) (z, tt) (fd ∷ [], tt)) ∷ []) ∵ enter ! C Λ code.function (fd ∷ []) _ $
@@ -167,13 +167,13 @@ module _ {M : Type 1} (𝓤 : URA M) (H : Heap 𝓤) (A : Atoms 𝓤) (W : Given
         keep ! (0 ∷ []) $ by ! (exits s v₃)))))))))))))))))))))
 
 module _ {M : Type 1} (𝓤 : URA M) (H : Heap 𝓤) (A : Atoms 𝓤) (W : Given 𝓤 H A) (mem″ : Memory → SProp 𝓤) (run : Routine → Fun 𝓤) where
-  status-of-walks : (C : Calls 𝓤 H) (Λ : Loops 𝓤 H) → FmC 𝓤 H (W .laws) C → Triple 𝓤 (C #console·status·blank) (Blank 𝓤 H A mem″ run) → Triple 𝓤 (C #libc·fstat) (Fstat 𝓤 H A mem″ run) → Triple 𝓤 (C #console·status·part-of) (PartOf 𝓤 H A mem″ run)
+  status-of-walks : (C : Calls 𝓤 H) (Λ : Loops 𝓤 H) → FmC 𝓤 H (W .laws) C → Triple 𝓤 (C #files·status·blank) (Blank 𝓤 H A mem″ run) → Triple 𝓤 (C #libc·fstat) (Fstat 𝓤 H A mem″ run) → Triple 𝓤 (C #files·status·part-of) (PartOf 𝓤 H A mem″ run)
       → Walks 𝓤 H A status-of.ended stayed (WpFn 𝓤 H C Λ code.function) (status-of.clauses 𝓤 H A mem″ run)
   status-of-walks C Λ fm known-blank known-fstat known-part = walked 𝓤 H A status-of.ended stayed (status-of.clauses 𝓤 H A mem″ run) (WpFn 𝓤 H C Λ code.function) (λ κs. (sint-vals w32, tt)) (λ κs. (sint-tells w32, tt))
       (λ κs qs bounds a g are. via 𝓤 _ (fst∗ 𝓤 _ (emp 𝓤)) (walk 𝓤 H A W mem″ run (a .0) (are .0 .1) C Λ fm known-blank known-fstat known-part))
 
 status-of-meets : {M : Type 1} (𝓤 : URA M) (H : Heap 𝓤) (A : Atoms 𝓤) (W : Given 𝓤 H A) (mem″ : Memory → SProp 𝓤) (run : Routine → Fun 𝓤) (𝓣 : Tables 𝓤 H)
-    → Triple 𝓤 (𝓣 .C #console·status·blank) (Blank 𝓤 H A mem″ run) → Triple 𝓤 (𝓣 .C #libc·fstat) (Fstat 𝓤 H A mem″ run) → Triple 𝓤 (𝓣 .C #console·status·part-of) (PartOf 𝓤 H A mem″ run)
+    → Triple 𝓤 (𝓣 .C #files·status·blank) (Blank 𝓤 H A mem″ run) → Triple 𝓤 (𝓣 .C #libc·fstat) (Fstat 𝓤 H A mem″ run) → Triple 𝓤 (𝓣 .C #files·status·part-of) (PartOf 𝓤 H A mem″ run)
     → Meets 𝓤 H A status-of.signature (WpFn 𝓤 H (𝓣 .C) (𝓣 .Λ) code.function) (status-of.spec 𝓤 H A mem″ run)
 status-of-meets 𝓤 H A W mem″ run 𝓣 known-blank known-fstat known-part = walk-meets 𝓤 H A status-of.ended stayed W (goes-none 𝓤 H A W 0 (λ _. i32) yes (λ κs x f. refl), tt) (status-of.clauses 𝓤 H A mem″ run) (WpFn 𝓤 H (𝓣 .C) (𝓣 .Λ) code.function) (WpFn-mono 𝓤 H (W .laws) 𝓣 code.function)
     (status-of-walks 𝓤 H A W mem″ run (𝓣 .C) (𝓣 .Λ) (fmOf 𝓤 H (W .laws) 𝓣) known-blank known-fstat known-part)
@@ -182,8 +182,8 @@ pub status-of-spec : {M : Type 1} → stated.statement M
 unfolding code.routine tablesOf
 status-of-spec 𝓤 H 𝓜 𝓖 𝓡 =
     entered 𝓤 H (tripleOf 𝓤 H (𝓖 .A) status-of.signature (status-of.spec 𝓤 H (𝓖 .A) (𝓜 .mem) (𝓡 .run)))
-    (tables 𝓤 H 𝓜 𝓡 code.env .C) (tables 𝓤 H 𝓜 𝓡 code.env .Λ) #console·status·status-of code.function (code.unfolded 𝓤 H 𝓜 𝓡)
+    (tables 𝓤 H 𝓜 𝓡 code.env .C) (tables 𝓤 H 𝓜 𝓡 code.env .Λ) #files·status·status-of code.function (code.unfolded 𝓤 H 𝓜 𝓡)
     (status-of-meets 𝓤 H (𝓖 .A) (givenOf 𝓤 H 𝓜 𝓖) (𝓜 .mem) (𝓡 .run) (tablesOf 𝓤 H 𝓜 (tables 𝓤 H 𝓜 𝓡 code.env))
-    (cited 𝓤 H (Blank 𝓤 H (𝓖 .A) (𝓜 .mem) (𝓡 .run)) 𝓜 𝓡 code.env #console·status·blank blank-def.routine code.calls-console·status·blank (blank-thm.met 𝓤 H 𝓜 𝓖 𝓡))
+    (cited 𝓤 H (Blank 𝓤 H (𝓖 .A) (𝓜 .mem) (𝓡 .run)) 𝓜 𝓡 code.env #files·status·blank blank-def.routine code.calls-files·status·blank (blank-thm.met 𝓤 H 𝓜 𝓖 𝓡))
     (cited 𝓤 H (Fstat 𝓤 H (𝓖 .A) (𝓜 .mem) (𝓡 .run)) 𝓜 𝓡 code.env #libc·fstat fstat-def.routine code.calls-libc·fstat (fstat-thm.met 𝓤 H 𝓜 𝓖 𝓡))
-    (cited 𝓤 H (PartOf 𝓤 H (𝓖 .A) (𝓜 .mem) (𝓡 .run)) 𝓜 𝓡 code.env #console·status·part-of part-of-def.routine code.calls-console·status·part-of (part-of-thm.met 𝓤 H 𝓜 𝓖 𝓡)))
+    (cited 𝓤 H (PartOf 𝓤 H (𝓖 .A) (𝓜 .mem) (𝓡 .run)) 𝓜 𝓡 code.env #files·status·part-of part-of-def.routine code.calls-files·status·part-of (part-of-thm.met 𝓤 H 𝓜 𝓖 𝓡)))

@@ -8,10 +8,8 @@
 // the same time, the later one takes the other for one that was ended: either the other is ahead, and then the later one wins, or its new
 // file is gone, and then it says an error and has written nothing. (A program whose note another has taken away so, and that is then ended
 // by force itself, leaves a new file that no note names.)
-use crate::arguments::IMAGE;
 use crate::link::Resolved;
 use crate::link::resolve;
-use crate::message::error_about;
 use crate::note::FIGURES;
 use crate::note::Noted;
 use crate::note::is_cleared;
@@ -21,10 +19,13 @@ use crate::note::put_new;
 use crate::note::remove_note;
 use crate::path::ended;
 use crate::path::folder_bytes;
-use crate::sizes::WORD_ROOM;
-use crate::sizes::front;
 use crate::status::Status;
 use crate::status::status_of;
+use console::arguments::IMAGE;
+use console::ending::Ending;
+use console::message::error_about;
+use console::sizes::WORD_ROOM;
+use console::sizes::front;
 use libc::PATH_MAX;
 
 // The bits of a mode: that someone may write, and all that are set by hand.
@@ -172,10 +173,10 @@ fn replaced_at(path: &[u8], image: &[u8]) -> Replaced {
     }
 }
 
-// Says what stood in the way; whether nothing did.
-fn is_done(r: Replaced, path: &[u8]) -> bool {
+// Says what stood in the way.
+fn complain_about(r: Replaced, path: &[u8]) -> Ending {
     match r {
-        Replaced::Done => return true,
+        Replaced::Done => Ending::Done,
         Replaced::Links => error_about(
             b"nothing is written, since there are too many links, or too long ones, at ",
             path,
@@ -205,7 +206,17 @@ fn is_done(r: Replaced, path: &[u8]) -> bool {
             path,
         ),
     }
-    false
+}
+
+// Whether the file was replaced; what stood in the way is said.
+fn is_done(r: Replaced, path: &[u8]) -> bool {
+    match r {
+        Replaced::Done => true,
+        _ => {
+            complain_about(r, path);
+            false
+        }
+    }
 }
 
 // Replaces the image's file; an error is said, and then the file is as it was.

@@ -1,36 +1,10 @@
-// Paths: put together in a buffer, and as the system reads them.
-ghost use mathlib.Core.Path.{_≡_};
-ghost use lib.ListN.{length};
+// Paths: their folders, and as the system reads them.
 ghost use Rattle.libc.specs.Io.{Ended};
 use libc::PATH_MAX;
 
 const LAST: usize = PATH_MAX - 1;
 
 pub const SLASH: u8 = 47;
-
-// Puts a byte at a place of a buffer, where there is room, and answers the place after it.
-pub fn put_byte(out: &mut [u8], at: usize, b: u8) -> usize
-    ensures { λ r. ⌜ length (now (out .exit)) ≡ length (now (out .entry)) ⌝ }
-{
-    if at < out.len() {
-        out[at] = b;
-        return at + 1;
-    }
-    at
-}
-
-// Puts bytes at a place of a buffer, as far as it goes, and answers the place after them.
-pub fn put(out: &mut [u8], at: usize, s: &[u8]) -> usize
-    ensures { λ r. ⌜ length (now (out .exit)) ≡ length (now (out .entry)) ⌝ }
-{
-    let mut i: usize = 0;
-    let mut e = at;
-    while i < s.len() {
-        e = put_byte(out, e, s[i]);
-        i += 1;
-    }
-    e
-}
 
 // How many bytes of a path name its folder, the last slash among them; 0 where it has none.
 pub fn folder_bytes(path: &[u8]) -> usize {

@@ -1,6 +1,6 @@
 -- The buffer keeps its 4096 bytes, so that the last store is within it.
-use Rattle.console.proofs.path.ended.Statement.{statement}
-use Rattle.console.proofs.path.ended.Tie as tie
+use Rattle.files.proofs.path.ended.Statement.{statement}
+use Rattle.files.proofs.path.ended.Tie as tie
 use borrow.Author.Needs.{needs}
 use native.Mathlib.Omega.{arith}
 use Prim.Native.Nat.{ℕ, _-_, _<_, _≤_}

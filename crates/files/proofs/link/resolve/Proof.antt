@@ -1,6 +1,6 @@
 -- Both buffers keep their lengths, and each turn follows one link more.
-use Rattle.console.proofs.link.resolve.Statement.{statement}
-use Rattle.console.proofs.link.resolve.Tie as tie
+use Rattle.files.proofs.link.resolve.Statement.{statement}
+use Rattle.files.proofs.link.resolve.Tie as tie
 use borrow.Author.Needs.{needs}
 use Prim.Native.Nat.{_-_, _≤_}
 use lib.ListN.{length}

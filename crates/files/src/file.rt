@@ -1,8 +1,8 @@
 // Reading the files that the arguments name.
-use crate::ending::Ending;
-use crate::message::error_about;
-use crate::sizes::WORD_ROOM;
-use crate::sizes::front;
+use console::ending::Ending;
+use console::message::error_about;
+use console::sizes::WORD_ROOM;
+use console::sizes::front;
 
 pub enum FileRead {
     Bytes(usize),

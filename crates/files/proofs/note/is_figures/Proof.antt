@@ -1,5 +1,5 @@
-use Rattle.console.proofs.note.is_figures.Statement.{statement}
-use Rattle.console.proofs.note.is_figures.Tie as tie
+use Rattle.files.proofs.note.is_figures.Statement.{statement}
+use Rattle.files.proofs.note.is_figures.Tie as tie
 use borrow.Author.Needs.{needs}
 use Prim.Native.Nat.{_-_}
 use lib.ListN.{length}

@@ -2,9 +2,9 @@
 use crate::path::SLASH;
 use crate::path::ended;
 use crate::path::folder_bytes;
-use crate::path::put;
-use crate::sizes::WORD_ROOM;
-use crate::sizes::front;
+use console::buffer::put;
+use console::sizes::WORD_ROOM;
+use console::sizes::front;
 
 // How many links are followed at most, as the system does.
 const LINKS: usize = 40;

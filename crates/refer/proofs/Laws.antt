@@ -5,7 +5,7 @@ use mathlib.Core.List.{List, [], _∷_}
 use mathlib.Core.Bool.{Bool, true, false, cond, _&&_, _||_}
 use native.Mathlib.Omega.{arith}
 use borrow.Author.Needs.{needs}
-use borrow.Author.Tests.{eq-eqb, ne-eqb, lt-ltb, le-ltb}
+use borrow.Author.Tests.{eq-eqb, ne-eqb, lt-ltb, le-ltb, ltb-true, ltb-false}
 use lib.Dec.{eqb, ltb}
 use lib.ListN.{length}
 use Rattle.text.specs.Answer.{Answer, given, refused}
@@ -15,7 +15,7 @@ use Rattle.grammar.specs.Move.{View, viewIn}
 use Rattle.grammar.specs.Parameter.{find, foundAt}
 use Rattle.grammar.specs.declared.names.Found.{Found}
 use Rattle.grammar.specs.declared.names.Found.the-variants as found
-use Rattle.refer.specs.Refer.{innerRows, rows, row, isFree, isOf, leads, judged, failing, leastFrom, leastOf, leastIn, referred, told}
+use Rattle.refer.specs.Refer.{innerRows, rows, row, isFree, isOf, leads, judged, failing, leastFrom, leastOf, leastIn, stopped, sooner, referred, told}
 use Rattle.refer.specs.declared.Row.{Row}
 use Rattle.refer.specs.declared.Reference.{Reference}
 use Rattle.refer.specs.declared.Reference.the-variants as variant
@@ -52,77 +52,126 @@ pub ruleset refers = (refer-free, refer-none, refer-right, refer-wrong, via, nee
 
 -- a and e are the places of the name, and q what `refer` gave
 module _ (x : List ℕ) (v : View) (r : Row) (i a e : ℕ) (pa : a ≡ v .slots (r .sec) i (r .slot)) (pe : e ≡ v .slots (r .sec) i (r .slot + 1)) where
-  pub failing-none : e ≡ 0 → length x ≡ failing x v r i
+  pub reference-none : e ≡ 0 → given tt ≡ stopped x (failing x v r i)
   unfolding failing
-  failing-none h = rw (← pe, eq-eqb e 0 h)
+  reference-none h = rw (← pe, eq-eqb e 0 h, le-ltb (length x) (length x) (omega arith))
 
-  module _ (h : e ≡ 0 → ⊥) (q : Reference) (p : told q ≡ judged x v r a e) where
-    by-lead : (t : Bool) → told q ≡ cond t (given tt) (refused 7 a) → (q ≡ variant.Fine → t ≡ true) × ((n m : ℕ) → q ≡ variant.Refused n m → (t ≡ false) × (m ≡ a))
-    by-lead true z = ((λ y. refl), λ n m y. absurd (let w : _≡_ {A = ℕ} 0 1 = (let u : told q ≡ refused n m = ap told y in cc) in omega arith))
-    by-lead false z = ((λ y. absurd (let w : _≡_ {A = ℕ} 0 1 = (let u : told q ≡ given tt = ap told y in cc) in omega arith)), λ n m y. let u : told q ≡ refused n m = ap told y in (refl, cc))
-
-    pub failing-fine : q ≡ variant.Fine → length x ≡ failing x v r i
+  module _ (h : e ≡ 0 → ⊥) where
+    by-lead : (t : Bool) → leads x v r a e ≡ t → failing x v r i ≡ cond t (length x) a
     unfolding failing
-    failing-fine y = let t : leads x v r a e ≡ true = by-lead (leads x v r a e) p .0 y in rw (← pe, ← pa, ne-eqb e 0 h, t)
+    by-lead t y = rw (← pe, ← pa, ne-eqb e 0 h, y)
 
-    pub failing-at : (n m : ℕ) → q ≡ variant.Refused n m → m ≡ failing x v r i
-    unfolding failing
-    failing-at n m y =
-        let t : (leads x v r a e ≡ false) × (m ≡ a) = by-lead (leads x v r a e) p .1 n m y in
-        let f : leads x v r a e ≡ false = t .0 in
-        rw (← pe, ← pa, ne-eqb e 0 h, f, t .1)
+    pub reference-past : length x ≤ a → given tt ≡ stopped x (failing x v r i)
+    reference-past l = turn (leads x v r a e) refl where
+      turn : (t : Bool) → leads x v r a e ≡ t → given tt ≡ stopped x (failing x v r i)
+      turn true y = rw (by-lead true y, le-ltb (length x) (length x) (omega arith))
+      turn false y = rw (by-lead false y, le-ltb a (length x) l)
 
-pub ruleset failings = (failing-none, failing-fine, failing-at, needs)
+    pub reference-is : a < length x → (q : Reference) → told q ≡ judged x v r a e → told q ≡ stopped x (failing x v r i)
+    reference-is l q p = p ∙ turn (leads x v r a e) refl where
+      turn : (t : Bool) → leads x v r a e ≡ t → judged x v r a e ≡ stopped x (failing x v r i)
+      turn true y = rw (y, by-lead true y, le-ltb (length x) (length x) (omega arith))
+      turn false y = rw (y, by-lead false y, lt-ltb a (length x) l)
 
--- the least of the records from i on
-pub record Lessening (x : List ℕ) (v : View) (r : Row) (i least : ℕ) : Type 0 where
+pub ruleset references = (reference-none, reference-past, reference-is, needs)
+
+-- the sooner of two, by the branches of the code
+module _ (a b : Reference) where
+  pub sooner-fine : a ≡ variant.Fine → told b ≡ sooner (told a) (told b)
+  sooner-fine y = rw y
+
+  module _ (n p : ℕ) (y : a ≡ variant.Refused n p) where
+    pub sooner-one : b ≡ variant.Fine → refused n p ≡ sooner (told a) (told b)
+    sooner-one z = rw (y, z)
+
+    pub sooner-second : (m q : ℕ) → b ≡ variant.Refused m q → q < p → refused m q ≡ sooner (told a) (told b)
+    sooner-second m q z l = rw (y, z, lt-ltb q p l)
+
+    pub sooner-first : (m q : ℕ) → b ≡ variant.Refused m q → p ≤ q → refused n p ≡ sooner (told a) (told b)
+    sooner-first m q z l = rw (y, z, le-ltb q p l)
+
+pub ruleset sooners = (sooner-fine, sooner-one, sooner-second, sooner-first, needs)
+
+-- of two places the smaller stops sooner
+both : (x : List ℕ) (p q : ℕ) → sooner (stopped x p) (stopped x q) ≡ stopped x (min p q)
+both x p q = turn (ltb p (length x)) (ltb q (length x)) (ltb q p) refl refl refl where
+  turn : (a b c : Bool) → ltb p (length x) ≡ a → ltb q (length x) ≡ b → ltb q p ≡ c → sooner (stopped x p) (stopped x q) ≡ stopped x (min p q)
+  turn true true true ea eb ec = let z : min p q ≡ q = omega (arith, ltb-true) in rw (z, ea, eb, ec)
+  turn true true false ea eb ec = let z : min p q ≡ p = omega (arith, ltb-false) in rw (z, ea, eb, ec)
+  turn true false c ea eb ec = let z : min p q ≡ p = omega (arith, ltb-true, ltb-false) in rw (z, ea, eb)
+  turn false true c ea eb ec = let z : min p q ≡ q = omega (arith, ltb-true, ltb-false) in rw (z, ea, eb)
+  turn false false c ea eb ec = let z : length x ≤ min p q = omega (arith, ltb-false) in rw (ea, eb, le-ltb (min p q) (length x) z)
+
+-- the first by place of the records from i on
+pub record Lessening (x : List ℕ) (v : View) (r : Row) (i : ℕ) (first : Reference) : Type 0 where
   pub within : i ≤ v .counts (r .sec)
-  pub is : least ≡ leastFrom (v .counts (r .sec) - i) x v r i
+  pub is : told first ≡ stopped x (leastFrom (v .counts (r .sec) - i) x v r i)
 
 module _ (x : List ℕ) (v : View) (r : Row) where
-  pub less-start : (i : ℕ) → i ≡ v .counts (r .sec) → Lessening x v r i (length x)
+  pub less-start : (i : ℕ) → i ≡ v .counts (r .sec) → Lessening x v r i variant.Fine
   unfolding leastFrom
-  less-start i p = let z : v .counts (r .sec) - i ≡ 0 = omega arith in record { within = omega arith; is = rw z }
+  less-start i p = let z : v .counts (r .sec) - i ≡ 0 = omega arith in record { within = omega arith; is = rw (z, le-ltb (length x) (length x) (omega arith)) }
 
-  pub less-on : (i least f : ℕ) → Lessening x v r i least → 0 < i → f ≡ failing x v r (i - 1) → (m : ℕ) → m ≡ min f least → Lessening x v r (i - 1) m
+  pub less-on : (i : ℕ) (first one : Reference) → Lessening x v r i first → 0 < i → told one ≡ stopped x (failing x v r (i - 1)) → (m : Reference) → told m ≡ sooner (told one) (told first) → Lessening x v r (i - 1) m
   unfolding leastFrom
-  less-on i least f q h p m y =
+  less-on i first one q h p m y =
       let z : v .counts (r .sec) - (i - 1) ≡ suc (v .counts (r .sec) - i) = omega (arith, q .within) in
       let s : suc (i - 1) ≡ i = omega arith in
-      record { within = omega (arith, q .within); is = rw (y, p, q .is, z, s) }
+      record { within = omega (arith, q .within); is = y ∙ rw (p, q .is, z, s) (both x (failing x v r (i - 1)) (leastFrom (v .counts (r .sec) - i) x v r i)) }
 
-  pub less-end : (i least : ℕ) → Lessening x v r i least → i ≤ 0 → least ≡ leastOf x v r
-  less-end i least q h =
+  pub less-end : (i : ℕ) (first : Reference) → Lessening x v r i first → i ≤ 0 → told first ≡ stopped x (leastOf x v r)
+  less-end i first q h =
       let z : i ≡ 0 = omega arith in
       let w : v .counts (r .sec) - 0 ≡ v .counts (r .sec) = omega arith in
       q .is ∙ rw (z, w)
 
 pub ruleset lessenings = (less-start, less-on, less-end, needs)
 
+-- the first of a row's, or the rest's
+pub with-rest : (x : List ℕ) (v : View) (r : Row) (one rest q : Reference) → told one ≡ stopped x (leastOf x v r) → told q ≡ sooner (told one) (told rest)
+    → told q ≡ sooner (stopped x (leastOf x v r)) (told rest)
+with-rest x v r one rest q p y = y ∙ rw p
+
+pub ruleset withs = (with-rest, needs)
+
 -- the rows one after the other, from the last on
 module _ (x t : List ℕ) where
   abbrev v : View
   v = viewIn t
 
-  pub inner-is : (g f e d : ℕ) (r₁ r₂ r₃ r₄ : Row) → r₁ ≡ row 1 26 2 0 0 → g ≡ min (leastOf x v r₁) (length x) → r₂ ≡ row 6 14 5 7 0 → f ≡ min (leastOf x v r₂) g
-      → r₃ ≡ row 6 4 1 0 1 → e ≡ min (leastOf x v r₃) f → r₄ ≡ row 6 2 5 10 2 → d ≡ min (leastOf x v r₄) e → d ≡ leastIn x v innerRows
-  unfolding innerRows
-  inner-is g f e d r₁ r₂ r₃ r₄ p₁ q₁ p₂ q₂ p₃ q₃ p₄ q₄ = rw (q₄, q₃, q₂, q₁, p₄, p₃, p₂, p₁)
+  -- a row before others, of which the first by place is at m
+  row-on : (r : Row) (m : ℕ) (q rest : Reference) → told rest ≡ stopped x m → told q ≡ sooner (stopped x (leastOf x v r)) (told rest) → told q ≡ stopped x (min (leastOf x v r) m)
+  row-on r m q rest p y = y ∙ rw p (both x (leastOf x v r) m)
 
-  pub rows-is : (d c b a : ℕ) (r₁ r₂ r₃ : Row) → d ≡ leastIn x v innerRows → r₁ ≡ row 5 10 5 10 2 → c ≡ min (leastOf x v r₁) d → r₂ ≡ row 5 8 1 0 1 → b ≡ min (leastOf x v r₂) c
-      → r₃ ≡ row 5 6 4 0 0 → a ≡ min (leastOf x v r₃) b → a ≡ leastIn x v rows
-  unfolding rows
-  rows-is d c b a r₁ r₂ r₃ p₀ p₁ q₁ p₂ q₂ p₃ q₃ = rw (q₃, q₂, q₁, p₀, p₃, p₂, p₁)
+  row-last : (r : Row) (q : Reference) → told q ≡ stopped x (leastOf x v r) → told q ≡ stopped x (min (leastOf x v r) (length x))
+  row-last r q y = y ∙ (alone (stopped x (leastOf x v r)) ∙ both x (leastOf x v r) (length x)) where
+    alone : (a : Answer (Unit {0})) → a ≡ sooner a (stopped x (length x))
+    alone (given u) = rw (le-ltb (length x) (length x) (omega arith))
+    alone (refused n p) = rw (le-ltb (length x) (length x) (omega arith))
+
+  pub inner-is : (g f e d : Reference) (r₁ r₂ r₃ r₄ : Row) → r₁ ≡ row 1 26 2 0 0 → told g ≡ stopped x (leastOf x v r₁) → r₂ ≡ row 6 14 5 7 0 → told f ≡ sooner (stopped x (leastOf x v r₂)) (told g)
+      → r₃ ≡ row 6 4 1 0 1 → told e ≡ sooner (stopped x (leastOf x v r₃)) (told f) → r₄ ≡ row 6 2 5 10 2 → told d ≡ sooner (stopped x (leastOf x v r₄)) (told e)
+      → told d ≡ stopped x (leastIn x v innerRows)
+  unfolding innerRows
+  inner-is g f e d r₁ r₂ r₃ r₄ p₁ q₁ p₂ q₂ p₃ q₃ p₄ q₄ =
+      row-on (row 6 2 5 10 2) _ d e
+      (row-on (row 6 4 1 0 1) _ e f
+      (row-on (row 6 14 5 7 0) _ f g
+      (row-last (row 1 26 2 0 0) g (rw p₁ at q₁))
+      (rw p₂ at q₂))
+      (rw p₃ at q₃))
+      (rw p₄ at q₄)
+
+  pub rows-is : (d c b a : Reference) (r₁ r₂ r₃ : Row) → told d ≡ stopped x (leastIn x v innerRows) → r₁ ≡ row 5 10 5 10 2 → told c ≡ sooner (stopped x (leastOf x v r₁)) (told d)
+      → r₂ ≡ row 5 8 1 0 1 → told b ≡ sooner (stopped x (leastOf x v r₂)) (told c) → r₃ ≡ row 5 6 4 0 0 → told a ≡ sooner (stopped x (leastOf x v r₃)) (told b)
+      → told a ≡ referred x v
+  unfolding referred rows
+  rows-is d c b a r₁ r₂ r₃ p₀ p₁ q₁ p₂ q₂ p₃ q₃ =
+      row-on (row 5 6 4 0 0) _ a b
+      (row-on (row 5 8 1 0 1) _ b c
+      (row-on (row 5 10 5 10 2) _ c d p₀
+      (rw p₁ at q₁))
+      (rw p₂ at q₂))
+      (rw p₃ at q₃)
 
 pub ruleset chains = (inner-is, rows-is)
-
-module _ (x : List ℕ) (v : View) (p : ℕ) (q : p ≡ leastIn x v rows) where
-  pub referred-not : p < length x → refused 7 p ≡ referred x v
-  unfolding referred
-  referred-not h = rw (← q, lt-ltb p (length x) h)
-
-  pub referred-all : length x ≤ p → given tt ≡ referred x v
-  unfolding referred
-  referred-all h = rw (← q, le-ltb p (length x) h)
-
-pub ruleset alls = (referred-not, referred-all, needs)

@@ -71,9 +71,19 @@ abbrev pub leastIn : List ℕ → View → List Row → ℕ
 leastIn x v [] = length x
 leastIn x v (r ∷ rs) = min (leastOf x v r) (leastIn x v rs)
 
+-- 7 at a place of the text; a place past it stops nothing
+abbrev pub stopped : List ℕ → ℕ → Answer (Unit {0})
+stopped x p = cond (ltb p (length x)) (refused 7 p) (given tt)
+
 -- every reference leads somewhere, or 7 at the first that does not
 unfoldable pub referred : List ℕ → View → Answer (Unit {0})
-referred x v = cond (ltb (leastIn x v rows) (length x)) (refused 7 (leastIn x v rows)) (given tt)
+referred x v = stopped x (leastIn x v rows)
+
+-- the earlier of two refusals, or the one that there is
+abbrev pub sooner : Answer (Unit {0}) → Answer (Unit {0}) → Answer (Unit {0})
+sooner (refused n p) (refused m q) = cond (ltb q p) (refused m q) (refused n p)
+sooner (refused n p) (given u) = refused n p
+sooner (given u) b = b
 
 -- what `Reference` answers
 abbrev pub told : Reference → Answer (Unit {0})

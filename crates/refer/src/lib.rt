@@ -10,9 +10,8 @@ use grammar::view::count_of;
 use grammar::view::slot_of;
 use text::bytes::same_part;
 ghost use mathlib.Core.Path.{_≡_};
-ghost use Prim.Native.Nat.{min};
 ghost use Rattle.grammar.specs.Move.{viewIn};
-ghost use Rattle.refer.specs.Refer.{innerRows, rows, row, isFree, judged, failing, leastOf, leastIn, referred, told};
+ghost use Rattle.refer.specs.Refer.{innerRows, row, isFree, judged, failing, leastOf, leastIn, stopped, sooner, referred, told};
 
 // Every reference leads somewhere, or the refusal of the first that does not.
 pub enum Reference {
@@ -67,77 +66,72 @@ fn refer(x: &[u8], t: &[u64], r: Row, a: usize, e: usize) -> Reference
     Reference::Refused { no: 7, place: a }
 }
 
-// The place of record i's reference where it leads nowhere, and else the text's length.
-fn failing_of(x: &[u8], t: &[u64], r: Row, i: u16) -> usize
-    ensures { λ q. ⌜ q ≡ failing (now (x .entry)) (viewIn (now (t .entry))) r i ⌝ }
+// What record i's reference leads to; one that is not there, its end 0, or not in the text is fine.
+fn reference_of(x: &[u8], t: &[u64], r: Row, i: u16) -> Reference
+    ensures { λ q. ⌜ told q ≡ stopped (now (x .entry)) (failing (now (x .entry)) (viewIn (now (t .entry))) r i) ⌝ }
 {
     let k = r.slot as u16;
     let a = slot_of(t, r.sec, i, k) as usize;
     let e = slot_of(t, r.sec, i, k + 1) as usize;
     if e == 0 {
-        return x.len();
+        return Reference::Fine;
     }
-    match refer(x, t, r, a, e) {
-        Reference::Fine => x.len(),
-        Reference::Refused { no: _, place } => place,
+    if x.len() <= a {
+        return Reference::Fine;
     }
+    refer(x, t, r, a, e)
 }
 
-// The smaller of two places.
-fn smaller(a: usize, b: usize) -> usize
-    ensures { λ r. ⌜ r ≡ min a b ⌝ }
+// The earlier of two refusals, or the one that there is.
+fn sooner_of(a: Reference, b: Reference) -> Reference
+    ensures { λ q. ⌜ told q ≡ sooner (told a) (told b) ⌝ }
 {
-    if a < b { a } else { b }
+    let Reference::Refused { no: _, place: p } = a else {
+        return b;
+    };
+    let Reference::Refused { no: _, place: q } = b else {
+        return a;
+    };
+    if q < p { b } else { a }
 }
 
-// The least place of a row's references that lead nowhere.
-fn least_of(x: &[u8], t: &[u64], r: Row) -> usize
-    ensures { λ q. ⌜ q ≡ leastOf (now (x .entry)) (viewIn (now (t .entry))) r ⌝ }
+// The first by place of a row's references that lead nowhere.
+fn first_of(x: &[u8], t: &[u64], r: Row) -> Reference
+    ensures { λ q. ⌜ told q ≡ stopped (now (x .entry)) (leastOf (now (x .entry)) (viewIn (now (t .entry))) r) ⌝ }
 {
     let count = count_of(t, r.sec);
-    let mut least = x.len();
+    let mut first = Reference::Fine;
     let mut i = count;
     while 0 < i {
         i -= 1;
-        least = smaller(failing_of(x, t, r, i), least);
+        first = sooner_of(reference_of(x, t, r, i), first);
     }
-    least
+    first
 }
 
-// The same, or the rest's where that is less.
-fn least_with(x: &[u8], t: &[u64], r: Row, rest: usize) -> usize
-    ensures { λ q. ⌜ q ≡ min (leastOf (now (x .entry)) (viewIn (now (t .entry))) r) rest ⌝ }
+// The same, or the rest's where that is earlier.
+fn first_with(x: &[u8], t: &[u64], r: Row, rest: Reference) -> Reference
+    ensures { λ q. ⌜ told q ≡ sooner (stopped (now (x .entry)) (leastOf (now (x .entry)) (viewIn (now (t .entry))) r)) (told rest) ⌝ }
 {
-    smaller(least_of(x, t, r), rest)
+    sooner_of(first_of(x, t, r), rest)
 }
 
-// The least place of the references of axes and methods that lead nowhere.
-fn least_inside(x: &[u8], t: &[u64]) -> usize
-    ensures { λ q. ⌜ q ≡ leastIn (now (x .entry)) (viewIn (now (t .entry))) innerRows ⌝ }
+// The first by place of the references of axes and methods that lead nowhere.
+fn first_inside(x: &[u8], t: &[u64]) -> Reference
+    ensures { λ q. ⌜ told q ≡ stopped (now (x .entry)) (leastIn (now (x .entry)) (viewIn (now (t .entry))) innerRows) ⌝ }
 {
-    let g = least_with(x, t, row_of(METHOD, 26, TABLE, 0, 0), x.len());
-    let f = least_with(x, t, row_of(AXIS, 14, OBJECT, 7, 0), g);
-    let e = least_with(x, t, row_of(AXIS, 4, METHOD, 0, 1), f);
-    least_with(x, t, row_of(AXIS, 2, OBJECT, 10, 2), e)
+    let g = first_of(x, t, row_of(METHOD, 26, TABLE, 0, 0));
+    let f = first_with(x, t, row_of(AXIS, 14, OBJECT, 7, 0), g);
+    let e = first_with(x, t, row_of(AXIS, 4, METHOD, 0, 1), f);
+    first_with(x, t, row_of(AXIS, 2, OBJECT, 10, 2), e)
 }
 
-// The least place of all references that lead nowhere.
-fn least_in(x: &[u8], t: &[u64]) -> usize
-    ensures { λ q. ⌜ q ≡ leastIn (now (x .entry)) (viewIn (now (t .entry))) rows ⌝ }
-{
-    let d = least_inside(x, t);
-    let c = least_with(x, t, row_of(OBJECT, 10, OBJECT, 10, 2), d);
-    let b = least_with(x, t, row_of(OBJECT, 8, METHOD, 0, 1), c);
-    least_with(x, t, row_of(OBJECT, 6, LAYOUT, 0, 0), b)
-}
-
-// Judges every reference of the records.
+// Judges every reference of the records: the first by place that leads nowhere stops the load.
 pub fn refer_all(x: &[u8], t: &[u64]) -> Reference
     ensures { λ q. ⌜ told q ≡ referred (now (x .entry)) (viewIn (now (t .entry))) ⌝ }
 {
-    let place = least_in(x, t);
-    if place < x.len() {
-        return Reference::Refused { no: 7, place };
-    }
-    Reference::Fine
+    let d = first_inside(x, t);
+    let c = first_with(x, t, row_of(OBJECT, 10, OBJECT, 10, 2), d);
+    let b = first_with(x, t, row_of(OBJECT, 8, METHOD, 0, 1), c);
+    first_with(x, t, row_of(OBJECT, 6, LAYOUT, 0, 0), b)
 }

@@ -1,7 +1,16 @@
-use borrow.Author.Needs.{needs}
 use Rattle.refer.proofs.refer_all.Statement.{statement}
 use Rattle.refer.proofs.refer_all.Tie as tie
-use Rattle.refer.proofs.Laws.{alls}
+use Rattle.refer.proofs.Laws.{chains}
 
 pub refer-all-spec : {M : Type 1} → statement M
-refer-all-spec = tie.close (tie.spec (λ c κs. search alls) (λ c. search alls) (λ c. search alls))
+refer-all-spec =
+    tie.close
+    (tie.spec
+    (λ c κs. search chains)
+    (λ c κs. search chains)
+    (λ c κs. search chains)
+    (λ c κs. search chains)
+    (λ c κs. search chains)
+    (λ c κs. search chains)
+    (λ c κs. search chains)
+    (λ c. search chains))

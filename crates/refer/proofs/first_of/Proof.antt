@@ -1,16 +1,16 @@
-use Rattle.refer.proofs.least_of.Statement.{statement}
-use Rattle.refer.proofs.least_of.Tie as tie
+use Rattle.refer.proofs.first_of.Statement.{statement}
+use Rattle.refer.proofs.first_of.Tie as tie
 use Rattle.refer.proofs.Laws.{Lessening, lessenings}
 use Rattle.grammar.specs.Move.{viewIn}
 
 abbrev Inv-loop : tie.InvT-loop
-Inv-loop x t r count least₀ i₀ least i = Lessening x (viewIn t) r i least
+Inv-loop x t r count first₀ i₀ first i = Lessening x (viewIn t) r i first
 
 abbrev μ-loop : tie.MeasureT-loop
-μ-loop x t r count least₀ i₀ least i = i
+μ-loop x t r count first₀ i₀ first i = i
 
-pub least-of-spec : {M : Type 1} → statement M
-least-of-spec =
+pub first-of-spec : {M : Type 1} → statement M
+first-of-spec =
     tie.close
     (tie.spec
     Inv-loop

@@ -1,25 +1,42 @@
 -- Every case of the list holds, by computation.
 use mathlib.Core.Path.{refl}
 use lib.Count.{trailingZeros}
+use Rattle.text.specs.Walk.{walk, over}
+use Rattle.text.specs.Bytes.{isBlank, isAllowed, isLetter, isDigit, startsName, inName, startsNumber, pairAt, sameFor, samePart}
+use Rattle.text.specs.Blank.{lineEnd, commentEnd, blankAt, tokenEnds}
+use Rattle.text.specs.Token.{nameEnd, nameAt, stringEnd, stringAt, runEnd, numberAt, isBegin, isEnd, markAt, tokenAt, nextToken}
+use Rattle.number.specs.Answer.{inRun}
 use Rattle.number.specs.Digits.{digitOf, valueOn, allDigits, leading, trailing}
+use Rattle.number.specs.Whole.{wholeFrom, wholeOf}
 use Rattle.number.specs.Decimal.{signs, minus, lowest, made, pointed, decimalOf}
 use Rattle.cell.specs.Kind.{shapes, shapeOf}
 use Rattle.cell.specs.Bytes.{number, digits}
-use Rattle.cell.specs.Raw.{rawOf, fitsRaw, storedWith, rawAt}
+use Rattle.cell.specs.Raw.{rawOf, fitsRaw, storedWith, rawAt, written}
 use Rattle.convert.specs.Whole.{allSmall}
-use Rattle.convert.specs.Limit.{formed}
+use Rattle.convert.specs.Limit.{formed, atMost}
 use Rattle.convert.specs.Method.{sound, judged, ratFunc, linearOf}
 use Rattle.convert.specs.Fraction.{fraction, fractionOf}
 use Rattle.convert.specs.Round.{rounded, nearest, rawFor}
-use Rattle.convert.specs.Asked.{askedOf, nearestRaw}
+use Rattle.convert.specs.Asked.{askedOf, nearestRaw, askedRaw}
+use Rattle.words.specs.Row.{word, bytes, same, kindIn}
+use Rattle.words.specs.Table.{rows as words}
+use Rattle.words.specs.Class.{classOf, classAt}
+use Rattle.rows.specs.Sections.{sections}
+use Rattle.rows.specs.Rows.{rows, needed, rowCells, paramCells, limitCells, needCells, rowCell, paramCell, limitCell, needCell}
+use Rattle.grammar.specs.Move.{applied}
+use Rattle.grammar.specs.Parameter.{wrong, keeping, takenWhole, takenDecimal, takenNumber, findFrom, takenNew, takenName, takenText, taken}
+use Rattle.grammar.specs.Keyword.{rowFrom, rowOf, oneMore, stands, plainRow, opens, allMet, ends, item, afterBegin, afterEnd}
+use Rattle.grammar.specs.Read.{onPiece, move, readFrom, start, read}
+use Rattle.methods.specs.Methods.{linearAt, ratFuncAt, coefficients}
 use Rattle.place.specs.Align.{wordFor, alignment, nextFrom, aligned}
 use Rattle.place.specs.Inside.{inside}
 use Rattle.place.specs.Order.{insert, inOrder, parts}
 use Rattle.place.specs.Rules.{both, apart, apartFrom, allApart, distinct, before, counted, matching, sound as soundLayout}
-use Rattle.place.specs.Walk.{startOf, countIn, countAt, pointsOf, within, placeOne, allPlaced, start, placement}
-use Rattle.place.specs.Judge.{bytesOf, elements, allInside, weighed, judged as judgedObject}
-use Rattle.points.specs.Points.{bytes, nought, coefficients, spans, zeros, answer, AllHold, cases}
+use Rattle.place.specs.Walk.{startOf, countIn, countAt, pointsOf, within, placeOne, allPlaced, start as begin, placement}
+use Rattle.place.specs.Judge.{bytesOf, elements, allInside, weighed, judged as judgedParts}
+use Rattle.objects.specs.Object.{isType, part, layoutAt, layoutOf, word as wordOf, alignsOf, firstOf, groundOf, axisNeed, curveNeed, characteristicNeed, needOf, maskFits, judgeObject}
+use Rattle.points.specs.Points.{spans, zeros, answer, AllHold, cases}
 
 pub points : AllHold cases
-unfolding trailingZeros digitOf valueOn allDigits leading trailing signs minus lowest made pointed decimalOf shapes shapeOf number digits rawOf fitsRaw storedWith rawAt allSmall formed sound judged ratFunc linearOf fraction fractionOf rounded nearest rawFor askedOf nearestRaw wordFor alignment nextFrom aligned inside insert inOrder parts both apart apartFrom allApart distinct before counted matching soundLayout startOf countIn countAt pointsOf within placeOne allPlaced start placement bytesOf elements allInside weighed judgedObject bytes nought coefficients spans zeros answer cases
+unfolding trailingZeros walk over isBlank isAllowed isLetter isDigit startsName inName startsNumber pairAt sameFor samePart lineEnd commentEnd blankAt tokenEnds nameEnd nameAt stringEnd stringAt runEnd numberAt isBegin isEnd markAt tokenAt nextToken inRun digitOf valueOn allDigits leading trailing wholeFrom wholeOf signs minus lowest made pointed decimalOf shapes shapeOf number digits rawOf fitsRaw storedWith rawAt written allSmall formed atMost sound judged ratFunc linearOf fraction fractionOf rounded nearest rawFor askedOf nearestRaw askedRaw word bytes same kindIn words classOf classAt sections rows needed rowCells paramCells limitCells needCells rowCell paramCell limitCell needCell applied wrong keeping takenWhole takenDecimal takenNumber findFrom takenNew takenName takenText taken rowFrom rowOf oneMore stands plainRow opens allMet ends item afterBegin afterEnd onPiece move readFrom start read linearAt ratFuncAt coefficients wordFor alignment nextFrom aligned inside insert inOrder parts both apart apartFrom allApart distinct before counted matching soundLayout startOf countIn countAt pointsOf within placeOne allPlaced begin placement bytesOf elements allInside weighed judgedParts isType part layoutAt layoutOf wordOf alignsOf firstOf groundOf axisNeed curveNeed characteristicNeed needOf maskFits judgeObject spans zeros answer cases
 points = (refl, (refl, (refl, (refl, (refl, (refl, (refl, (refl, (refl, (refl, (refl, (refl, (refl, (refl, (refl, (refl, (refl, tt)))))))))))))))))

@@ -101,9 +101,9 @@ fn stored(k: Coefficients, kind: u64, asked: &[u8]) {
     }
 }
 
-// Prints the word that a raw write leaves of 0x12A7.
-fn left(mask: u64, raw: i64) {
-    let mut image = [0x12u8, 0xA7u8];
+// Prints the word that a raw write leaves of a word, given by its high and its low byte.
+fn left(high: u8, low: u8, mask: u64, raw: i64) {
+    let mut image = [high, low];
     if fits_raw(UWORD, mask, raw) {
         write_raw(&mut image, 0, UWORD, true, mask, raw);
         print(b" 0x");
@@ -229,11 +229,11 @@ fn show_nearest() {
 fn show_bytes() {
     print(b"\nP7 ");
     print_whole(read_raw(b"\x12\xA7", 0, UWORD, true, 0x00F0));
-    left(0x00F0, 3);
-    left(0x00F0, 16);
+    left(0x12, 0xA7, 0x00F0, 3);
+    left(0x12, 0xA7, 0x00F0, 16);
     print(b"\nP8");
-    left(0x0005, 5);
-    left(0x0005, 2);
+    left(0x00, 0x00, 0x0005, 5);
+    left(0x00, 0x00, 0x0005, 2);
     print(b"\nP9 ");
     print_whole(read_raw(b"\x2E\x18", 0, UWORD, true, 0));
     print(b" ");

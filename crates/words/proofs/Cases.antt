@@ -1,18 +1,15 @@
--- The class between two places, the kinds that the table's numbers stand for, and the parameters of the skipped plain keywords, by the tests that the code makes.
+-- The class between two places, and the kinds that the table's numbers stand for, by the tests that the code makes.
 use Prim.Native.Nat.{ℕ, _+_, _*_, _-_, _/_, _%_, _<_, _≤_}
 use native.Mathlib.Omega.{arith}
-use mathlib.Core.Path.{_≡_, refl, sym, _∙_}
-use mathlib.Core.List.{List, [], _∷_}
-use mathlib.Core.Bool.{false, cond, _||_, and-false}
+use mathlib.Core.Path.{_≡_, sym, _∙_}
+use mathlib.Core.List.{List}
+use mathlib.Core.Bool.{false, and-false}
 use borrow.Author.Tests.{ne-eqb, le-leb, lt-leb}
 use borrow.Author.Needs.{needs}
 use lib.Dec.{eqb}
 use lib.ListN.{length, take, drop, length-take, length-drop}
-use Rattle.words.specs.Kind.{Kind, takenBlock, takenPlain, takenChoice, skippedBlock, skippedPlain, listedOnly, unlisted, keywordCode}
-use Rattle.words.specs.Parameters.{Parameter, aString, aName, aWholeNumber, parametersOf}
-use Rattle.words.specs.Row.{bytes, word, same, kindIn}
-use Rattle.words.specs.Table.{rows}
-use Rattle.words.specs.Class.{classOf, classAt, codeOf}
+use Rattle.words.specs.Kind.{Kind, takenBlock, takenPlain, takenChoice, skippedBlock, skippedPlain, listedOnly, unlisted}
+use Rattle.words.specs.Class.{classOf, classAt}
 use Rattle.words.specs.Inner.{kindOf}
 use Rattle.words.proofs.Lengths.{longest}
 
@@ -52,63 +49,6 @@ module _ (k : ℕ) where
       rw (n 1 a, n 2 b, n 3 c, n 4 d, n 5 e, n 6 f)
 
 pub ruleset kinds = (kind-1, kind-2, kind-3, kind-4, kind-5, kind-6, kind-0, needs)
-
--- the codes of the skipped plain keywords, as the table has them
-format-code : codeOf "FORMAT" ≡ 37
-unfolding codeOf keywordCode classOf kindIn same rows word bytes
-format-code = refl
-
-name-code : codeOf "DISPLAY_IDENTIFIER" ≡ 38
-unfolding codeOf keywordCode classOf kindIn same rows word bytes
-name-code = refl
-
-unit-code : codeOf "PHYS_UNIT" ≡ 39
-unfolding codeOf keywordCode classOf kindIn same rows word bytes
-unit-code = refl
-
-version-code : codeOf "ASAP2_VERSION" ≡ 40
-unfolding codeOf keywordCode classOf kindIn same rows word bytes
-version-code = refl
-
-a2ml-code : codeOf "A2ML_VERSION" ≡ 41
-unfolding codeOf keywordCode classOf kindIn same rows word bytes
-a2ml-code = refl
-
-module _ (code : ℕ) where
-  -- the tests that the code makes
-  by-code : List Parameter
-  by-code =
-      cond (eqb code 37 || eqb code 39) (aString ∷ []) (cond (eqb code 38) (aName ∷ []) (cond (eqb code 40 || eqb code 41) (aWholeNumber ∷ aWholeNumber ∷ []) []))
-
-  by-code-is : by-code ≡ parametersOf code
-  unfolding by-code parametersOf
-  by-code-is = rw (format-code, unit-code, name-code, version-code, a2ml-code)
-
-  pub format-is : code ≡ 37 → aString ∷ [] ≡ parametersOf code
-  unfolding by-code
-  format-is h = let p : aString ∷ [] ≡ by-code = rw h in p ∙ by-code-is
-
-  pub name-is : code ≡ 38 → aName ∷ [] ≡ parametersOf code
-  unfolding by-code
-  name-is h = let p : aName ∷ [] ≡ by-code = rw h in p ∙ by-code-is
-
-  pub unit-is : code ≡ 39 → aString ∷ [] ≡ parametersOf code
-  unfolding by-code
-  unit-is h = let p : aString ∷ [] ≡ by-code = rw h in p ∙ by-code-is
-
-  pub version-is : code ≡ 40 → aWholeNumber ∷ aWholeNumber ∷ [] ≡ parametersOf code
-  unfolding by-code
-  version-is h = let p : aWholeNumber ∷ aWholeNumber ∷ [] ≡ by-code = rw h in p ∙ by-code-is
-
-  pub a2ml-is : code ≡ 41 → aWholeNumber ∷ aWholeNumber ∷ [] ≡ parametersOf code
-  unfolding by-code
-  a2ml-is h = let p : aWholeNumber ∷ aWholeNumber ∷ [] ≡ by-code = rw h in p ∙ by-code-is
-
-  pub other-is : (code ≡ 37 → ⊥) → (code ≡ 38 → ⊥) → (code ≡ 39 → ⊥) → (code ≡ 40 → ⊥) → (code ≡ 41 → ⊥) → [] ≡ parametersOf code
-  unfolding by-code
-  other-is a b c d e = rw (ne-eqb code 37 a, ne-eqb code 39 c, ne-eqb code 38 b, ne-eqb code 40 d, ne-eqb code 41 e) at by-code-is
-
-pub ruleset parameters = (format-is, unit-is, name-is, version-is, a2ml-is, other-is, needs)
 
 -- the class between two places, by the tests that the code makes
 module _ (s : List ℕ) (from to : ℕ) where

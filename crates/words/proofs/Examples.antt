@@ -5,8 +5,7 @@ use mathlib.Core.List.{List, [], _∷_}
 use Rattle.words.specs.Kind.{Kind, takenBlock, takenPlain, takenChoice, skippedBlock, skippedPlain, listedOnly, unlisted, keywordCode, choiceCode}
 use Rattle.words.specs.Row.{word, bytes, same, kindIn}
 use Rattle.words.specs.Table.{rows}
-use Rattle.words.specs.Class.{classOf, classAt, codeOf, choiceOf}
-use Rattle.words.specs.Parameters.{aString, aName, aWholeNumber, parametersOf}
+use Rattle.words.specs.Class.{classOf, classAt}
 
 -- a text, and its class
 data Case : Type 0 where
@@ -55,12 +54,7 @@ outside : classAt (bytes "MODULE") 0 7 ≡ unlisted
 unfolding classAt bytes
 outside = refl
 
--- a format, a display identifier, a version; a keyword that is taken has none here
-parameter-cases : parametersOf 37 ∷ parametersOf 38 ∷ parametersOf 40 ∷ parametersOf 1 ∷ [] ≡ (aString ∷ []) ∷ (aName ∷ []) ∷ (aWholeNumber ∷ aWholeNumber ∷ []) ∷ [] ∷ []
-unfolding parametersOf codeOf keywordCode classOf kindIn same rows word bytes
-parameter-cases = refl
-
 -- codes by their texts
-codes : codeOf "COMPU_VTAB" ∷ codeOf "UBYTE" ∷ choiceOf "UBYTE" ∷ choiceOf "LINEAR" ∷ [] ≡ 5 ∷ 0 ∷ 1 ∷ 20 ∷ []
-unfolding codeOf choiceOf keywordCode choiceCode classOf kindIn same rows word bytes
+codes : keywordCode (classOf (bytes "COMPU_VTAB")) ∷ keywordCode (classOf (bytes "UBYTE")) ∷ choiceCode (classOf (bytes "UBYTE")) ∷ choiceCode (classOf (bytes "LINEAR")) ∷ [] ≡ 5 ∷ 0 ∷ 1 ∷ 20 ∷ []
+unfolding keywordCode choiceCode classOf kindIn same rows word bytes
 codes = refl

@@ -3,6 +3,5 @@ pub mod Kind
 pub mod Row
 pub mod Table
 pub mod Class
-pub mod Parameters
 pub mod Told
 pub mod Inner

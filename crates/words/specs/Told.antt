@@ -1,11 +1,7 @@
 -- What the code's answers say, case by case.
-use mathlib.Core.List.{List, [], _∷_}
 use Rattle.words.specs.Kind.{Kind, takenBlock, takenPlain, takenChoice, skippedBlock, skippedPlain, listedOnly, unlisted}
-use Rattle.words.specs.Parameters.{Parameter, aString, aName, aWholeNumber}
 use Rattle.words.specs.declared.class.Class.{Class}
 use Rattle.words.specs.declared.class.Class.the-variants.{TakenBlock, TakenPlain, TakenChoice, SkippedBlock, SkippedPlain, ListedOnly, Unlisted}
-use Rattle.words.specs.declared.class.Parameters.{Parameters}
-use Rattle.words.specs.declared.class.Parameters.the-variants as parameters
 
 abbrev pub toldClass : Class → Kind
 toldClass (TakenBlock c) = takenBlock c
@@ -15,9 +11,3 @@ toldClass (SkippedBlock c) = skippedBlock c
 toldClass (SkippedPlain c) = skippedPlain c
 toldClass ListedOnly = listedOnly
 toldClass Unlisted = unlisted
-
-abbrev pub toldParameters : Parameters → List Parameter
-toldParameters parameters.String = aString ∷ []
-toldParameters parameters.Name = aName ∷ []
-toldParameters parameters.TwoWholeNumbers = aWholeNumber ∷ aWholeNumber ∷ []
-toldParameters parameters.Nothing = []

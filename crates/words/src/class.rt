@@ -1,14 +1,8 @@
-// The class of a word, and the parameters of the skipped plain keywords.
+// The class of a word.
 ghost use mathlib.Core.Path.{_≡_};
 ghost use Rattle.words.specs.Class.{classAt};
-ghost use Rattle.words.specs.Parameters.{parametersOf};
-ghost use Rattle.words.specs.Told.{toldClass, toldParameters};
+ghost use Rattle.words.specs.Told.{toldClass};
 ghost use Rattle.words.specs.Inner.{kindOf};
-use crate::codes::A2ML_VERSION;
-use crate::codes::ASAP2_VERSION;
-use crate::codes::DISPLAY_IDENTIFIER;
-use crate::codes::FORMAT;
-use crate::codes::PHYS_UNIT;
 use crate::kinds::CODES;
 use crate::kinds::LISTED_ONLY;
 use crate::kinds::SKIPPED_BLOCK;
@@ -36,14 +30,6 @@ pub enum Class {
     SkippedPlain(u8),
     ListedOnly,
     Unlisted,
-}
-
-// What stands after a skipped plain keyword.
-pub enum Parameters {
-    String,
-    Name,
-    TwoWholeNumbers,
-    Nothing,
 }
 
 // The class that a number of the table stands for.
@@ -83,18 +69,4 @@ pub fn class_of(s: &[u8], from: usize, to: usize) -> Class
         return class_from(long::number_of(s, from, n));
     }
     Class::Unlisted
-}
-
-// The parameters of a skipped plain keyword.
-pub fn parameters_of(code: u8) -> Parameters
-    ensures { λ r. ⌜ toldParameters r ≡ parametersOf code ⌝ }
-{
-    match code {
-        FORMAT => Parameters::String,
-        DISPLAY_IDENTIFIER => Parameters::Name,
-        PHYS_UNIT => Parameters::String,
-        ASAP2_VERSION => Parameters::TwoWholeNumbers,
-        A2ML_VERSION => Parameters::TwoWholeNumbers,
-        _ => Parameters::Nothing,
-    }
 }

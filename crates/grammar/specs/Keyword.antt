@@ -29,22 +29,23 @@ rowOf b w = rowFrom (length rowCells) 0 b w
 abbrev pub isRow : ℕ → Bool
 isRow i = ltb i (length rowCells)
 
--- a keyword's slot, its counting slot
+-- how often the keyword of row i was there, by its counting slot in the current record
 abbrev pub seen : View → ℕ → ℕ
 seen v i = current v (rowCell i 3) (rowCell i 4)
 
--- "an unused conversion word, NUMBER or AXIS_PTS_REF": row i may stand where the current record says so
+-- "an unused conversion word, NUMBER or AXIS_PTS_REF" where this is false: the keyword of row i may stand by what the current record says
 abbrev pub mayStand : View → ℕ → Bool
 mayStand v i = eqb (rowCell i 5) 0 || leb (rowCell i 6) (current v (rowCell i 3) (rowCell i 5)) && leb (current v (rowCell i 3) (rowCell i 5)) (rowCell i 7)
 
--- how often a keyword may stand: "more AXIS_DESCR than the type has (VALUE, VAL_BLK none)"; any other once
+-- how many AXIS_DESCR a CHARACTERISTIC's type has ("VALUE, VAL_BLK none")
 abbrev pub axesOf : ℕ → ℕ
 axesOf type = cond (eqb type MAP) 2 (cond (eqb type CURVE) 1 0)
 
+-- how often the keyword of row i may stand: no "more AXIS_DESCR than the type has"; any other once
 abbrev pub limitOf : View → ℕ → ℕ
 limitOf v i = cond (eqb (rowCell i 8) axis) (axesOf (current v object 4)) 1
 
--- "once-only keyword twice"
+-- "once-only keyword twice; more AXIS_DESCR than the type has": the keyword of row i, where it is counted, was there as often as it may stand
 abbrev pub isOften : View → ℕ → Bool
 isOften v i = not (eqb (rowCell i 4) 0) && leb (limitOf v i) (seen v i)
 
@@ -52,13 +53,13 @@ isOften v i = not (eqb (rowCell i 4) 0) && leb (limitOf v i) (seen v i)
 unfoldable pub oneMore : ℕ → ℕ
 oneMore n = cond (ltb n 255) (n + 1) 255
 
--- that the keyword of row i was there is counted, and a record is added where the row says so
+-- where the keyword of row i is counted: one more, and a record more where the row says so
 abbrev pub counting : View → ℕ → Act
 counting v i =
     cond (eqb (rowCell i 4) 0) idle
     (record { adds = rowCell i 8; sec = rowCell i 3; slot = rowCell i 4; many = 1; a = oneMore (seen v i); b = 0; c = 0; d = 0 })
 
--- a keyword of row i in the block b, from a up to e, whose block is then `inner`
+-- the keyword of row i, from a up to e: where it may stand, its parameters are next, and the block is then `inner`
 unfoldable pub stands : View → ℕ → ℕ → ℕ → ℕ → Move
 stands v i inner a e =
     cond (not (mayStand v i)) (refused 5 a)
@@ -67,13 +68,14 @@ stands v i inner a e =
 
 -- ---- a bare word
 
+-- a keyword that opens no block: "misplaced" is 5, and 9 where its row says so ("BYTE_ORDER inside AXIS_DESCR is 9")
 unfoldable pub plainRow : View → State → ℕ → ℕ → ℕ → Move
 plainRow v s i a e =
     cond (not (isRow i)) (refused 5 a)
     (cond (eqb (rowCell i 2) outside) (refused 9 a)
     (stands v i (s .block) a e))
 
--- keywords that are skipped may stand in every block; "the two versions also before PROJECT"
+-- the block whose rows have the keywords that are skipped: one for every block, and one for "the two versions also before PROJECT"
 abbrev pub homeOf : ℕ → ℕ
 homeOf b = cond (eqb b FILE) FILE ANY
 
@@ -88,10 +90,11 @@ bareWord v s a e word.unlisted = refused 4 a
 
 -- ---- the word after `/begin`
 
--- how many levels a block inside the block b may still hold: sixteen deep in all, PROJECT being the first
+-- how deep the block b stands, "counting PROJECT as one"
 abbrev pub depthOf : ℕ → ℕ
 depthOf b = cond (eqb b PROJECT) 1 (cond (eqb b MODULE) 2 (cond (eqb b AXIS-DESCR) 4 3))
 
+-- how many levels a block inside the block b may still hold: "at most sixteen deep" in all
 abbrev pub levelsIn : ℕ → ℕ
 levelsIn b = 15 - depthOf b
 
@@ -116,13 +119,14 @@ begunWord x v s a e word.unlisted = refused 4 a
 
 -- ---- `/end`, and the word after it
 
--- need i of the block b is met
+-- need i is met in the block b: it is another block's, or the current record does not ask for it, or it is there often enough
 abbrev pub isMet : View → ℕ → ℕ → Bool
 isMet v b i =
     not (eqb (needCell i 0) b)
     || not (eqb (needCell i 2) 0 || leb (needCell i 3) (current v (needCell i 1) (needCell i 2)) && leb (current v (needCell i 1) (needCell i 2)) (needCell i 4))
     || leb (needCell i 6) (current v (needCell i 1) (needCell i 5))
 
+-- so many needs from i on are met
 unfoldable pub allMet : ℕ → View → ℕ → ℕ → Bool
 allMet zero v b i = true
 allMet (suc f) v b i = isMet v b i && allMet f v b (suc i)
@@ -137,10 +141,11 @@ ends v s a e =
 abbrev pub holderOf : ℕ → ℕ
 holderOf b = cond (eqb b PROJECT) FILE (cond (eqb b MODULE) PROJECT (cond (eqb b AXIS-DESCR) CHARACTERISTIC MODULE))
 
--- "begin and end don't match" is 3; PROJECT's end is the text's
+-- the block's end, by its word up to e: PROJECT's end is the text's, and after any other its holder's keywords are next
 abbrev pub closes : State → ℕ → ℕ → Move
 closes s a e = cond (eqb (s .block) PROJECT) (went e (state finished FILE 0 0) idle) (went e (state items (holderOf (s .block)) 0 0) idle)
 
+-- "begin and end don't match" is 3
 abbrev pub endedWord : State → ℕ → ℕ → word.Kind → Move
 endedWord s a e (word.takenBlock c) = cond (eqb c (s .block)) (closes s a e) (refused 3 a)
 endedWord s a e (word.takenPlain c) = refused 3 a

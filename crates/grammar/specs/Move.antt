@@ -19,6 +19,7 @@ pub record View : Type 0 where
   pub counts : ℕ → ℕ
   pub slots : ℕ → ℕ → ℕ → ℕ
 
+-- the same of records as lists
 abbrev pub view : List (List (List ℕ)) → View
 view d = record { counts = count d; slots = slot d }
 
@@ -58,18 +59,20 @@ writes j k n x y z = record { adds = none; sec = j; slot = k; many = n; a = x; b
 abbrev pub values : Act → List ℕ
 values a = take (a .many) (a .a ∷ a .b ∷ a .c ∷ a .d ∷ [])
 
--- a record more where there is one to be added, then the numbers in the current record
+-- numbers in record i of section j, from slot k on
 abbrev pub puts : List (List (List ℕ)) → ℕ → ℕ → ℕ → List ℕ → List (List (List ℕ))
 puts d j i k [] = d
 puts d j i k (v ∷ vs) = puts (put d j i k v) j i (suc k) vs
 
--- (a section that is none has no room, so that nothing is added to it)
+-- a record more where there is one to be added (a section that is none has no room, so that nothing is added to it)
 abbrev pub added : Act → List (List (List ℕ)) → List (List (List ℕ))
 added a d = add sections d (a .adds)
 
+-- that record, then the numbers that are written, in the current record
 unfoldable pub applied : Act → List (List (List ℕ)) → List (List (List ℕ))
 applied a d = puts (added a d) (a .sec) (count (added a d) (a .sec) - 1) (a .slot) (values a)
 
+-- on to the place `next`, in a state, with what is written; the text is over; or a refusal
 pub data Move : Type 0 where
   went : (next : ℕ) → State → Act → Move
   over : Move

@@ -44,7 +44,7 @@ anEnd = kindNumber piece.end
 unfoldable pub wrong : ℕ → List ℕ → ℕ → ℕ → ℕ → Move
 wrong n x k a e = cond (eqb k aNumber && not (hasForm x a e)) (refused 2 a) (refused n a)
 
--- the parameter that is next, and the state after it
+-- the parameter that is next: its kind, its slot, the parameter after it, the section of its slot, its least and greatest number
 abbrev pub kindOf : State → ℕ
 kindOf s = paramCell (s .param) 0
 
@@ -63,10 +63,11 @@ lowOf s = limitCell (s .param) 0
 abbrev pub highOf : State → ℕ
 highOf s = limitCell (s .param) 1
 
+-- the state after it
 abbrev pub after : State → State
 after s = state items (s .block) (nextOf s) (s .left)
 
--- the parameter goes to its slot, where it has one: n numbers
+-- the parameter goes to its slot, where it has one: the first n of three numbers
 unfoldable pub keeping : State → ℕ → ℕ → ℕ → ℕ → Act
 keeping s n x y z = cond (eqb (slotOf s) 0) idle (writes (secOf s) (slotOf s) n x y z)
 
@@ -96,16 +97,16 @@ takenPairs s e n =
 abbrev pub decimalIn : View → ℕ → ℕ → Scaled
 decimalIn v j k = decimalSlots v j (v .counts j - 1) k
 
--- an entry of the current table from record i on has the number
+-- one of f entries from record i on has the number
 unfoldable pub hasEntry : ℕ → View → ℕ → ℕ → ℕ → Bool
 hasEntry zero v i sign size = false
 hasEntry (suc f) v i sign size = eqb (v .slots entry i 0) sign && eqb (v .slots entry i 1) size || hasEntry f v (suc i) sign size
 
--- the entries of the current table are those from its first on
+-- an entry of the current table has the number; its entries are those from its first on
 abbrev pub twice : View → ℕ → ℕ → Bool
 twice v sign size = hasEntry (v .counts entry - current v table 2) v (current v table 2) sign size
 
--- a record more in section j
+-- a record more in section j, which begins with the first n of four numbers
 abbrev pub newRecord : ℕ → ℕ → ℕ → ℕ → ℕ → ℕ → Act
 newRecord j n x y z u = record { adds = j; sec = j; slot = 0; many = n; a = x; b = y; c = z; d = u }
 
@@ -117,7 +118,7 @@ takenEntry v s a e d =
     (cond (leb (mostOf sections entry) (v .counts entry)) (refused 8 a)
     (went e (after s) (newRecord entry 2 (signOf d) (d .whole) 0 0))))
 
--- "a and d must be 0", else 9; "lower limit above upper" is 5
+-- an entry's number; "a and d must be 0", else 9; "lower limit above upper" is 5
 unfoldable pub takenDecimal : View → State → ℕ → ℕ → Scaled → Move
 takenDecimal v s a e d =
     cond (eqb (kindOf s) 12) (takenEntry v s a e d)
@@ -130,7 +131,7 @@ abbrev pub ofNumber : {A : Type 0} → ℕ → Answer A → (A → Move) → Mov
 ofNumber a (given n) f = f n
 ofNumber a (number.refused k) f = refused k a
 
--- whole numbers are kinds 3, 7, 8 and 11, decimals 4, 9, 10 and 12
+-- how many pairs follow, a whole number, a decimal: read, and then judged
 abbrev pub ofPairs : List ℕ → State → ℕ → ℕ → Move
 ofPairs x s a e = ofNumber a (inRun (wholeOf (highOf s)) x a e) (takenPairs s e)
 
@@ -140,6 +141,7 @@ ofWhole x s a e = ofNumber a (inRun (wholeOf (highOf s)) x a e) (takenWhole s a 
 abbrev pub ofDecimal : List ℕ → View → State → ℕ → ℕ → Move
 ofDecimal x v s a e = ofNumber a (inRun decimalOf x a e) (takenDecimal v s a e)
 
+-- by the parameter's kind: 11 is how many pairs follow, 3, 7 and 8 are whole numbers, and the others (4, 9, 10 and 12) decimals
 unfoldable pub takenNumber : List ℕ → View → State → ℕ → ℕ → Move
 takenNumber x v s a e =
     cond (eqb (kindOf s) 11) (ofPairs x s a e)
@@ -178,6 +180,7 @@ ofChoice s a e (word.skippedPlain c) = refused 5 a
 ofChoice s a e word.listedOnly = refused 9 a
 ofChoice s a e word.unlisted = refused 4 a
 
+-- a name by the parameter's kind: 6 is a new record's, 5 a choice, and any other is kept
 unfoldable pub takenName : List ℕ → View → State → ℕ → ℕ → Move
 takenName x v s a e =
     cond (eqb (kindOf s) 6) (takenNew x v s a e)
@@ -190,6 +193,7 @@ takenName x v s a e =
 abbrev pub afterText : State → State
 afterText s = cond (ltb 1 (s .left)) (state items (s .block) (s .param - 1) (s .left - 1)) (state items (s .block) 0 0)
 
+-- a pair's text (kind 13) goes to its entry, any other to its slot
 unfoldable pub takenText : State → ℕ → ℕ → Move
 takenText s a e =
     cond (eqb (kindOf s) 13) (went e (afterText s) (writes entry 2 2 a e 0))

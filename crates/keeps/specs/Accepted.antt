@@ -1,4 +1,5 @@
--- What a load accepts, stage by stage, with no word of how it goes about it (proofs/Exactly.antt).
+-- What a load accepts: the text is read, and then each rule holds of every record, with no word of the order in which a load judges them
+-- (proofs/Exactly.antt). Which texts are read, the crate `tree` says.
 use Prim.Native.Nat.{ℕ, _+_, _≤_, _<_}
 use mathlib.Core.Path.{_≡_}
 use mathlib.Core.List.{List, [], _∷_}
@@ -35,14 +36,16 @@ pub record Accepted (image : List ℕ) (base : ℕ) (x : List ℕ) (d : List (Li
       → leads x (view d) r (slot d (r .sec) i (r .slot)) (slot d (r .sec) i (r .slot + 1)) ≡ true
   -- "then conversions": every method has its coefficients
   pub conversions : (i : ℕ) → i < count d method → isGiven (coefficients (view d) i) ≡ true
-  -- "then each object's layout and mask (11), counts (12, 13) .. element bytes (12)"
+  -- "mask breaks its rule" (11)
   pub masks : (i : ℕ) → i < count d object → maskFits x (view d) i ≡ true
+  -- "each object's layout (11) .. counts (12, 13)": every part has its place
   pub places : (i : ℕ) → i < count d object → isGiven (placement (groundOf x (view d) base i) (needOf image base x (view d) i) image (layoutOf x (view d) i)) ≡ true
+  -- "element bytes (12)"
   pub bytes : (i : ℕ) → i < count d object → allInside image base (needOf image base x (view d) i) (layoutOf x (view d) i) (placesOf image base x (view d) i) ≡ true
   -- "4,096 elements in all objects"
   pub elements : allElements image base x d ≤ 4096
 
--- D are the tables of a description that is accepted
+-- the description x is read and accepted, and D are the tables' records of it
 pub record Taken (image : List ℕ) (base : ℕ) (x : List ℕ) (D : List (List (List ℕ))) : Type 0 where
   pub records : List (List (List ℕ))
   pub is-read : read x ≡ given records

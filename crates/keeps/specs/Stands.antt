@@ -12,32 +12,37 @@ use Rattle.tables.specs.Group.{elements, bytes, placeOf}
 pub data Part : Type 0 where
   points-x points-y values : Part
 
--- "Requests name an element by object number, part and index": the part's number, whether an object needs it, its address, its data type, its points
+-- the part's number: "Requests name an element by object number, part and index"
 abbrev pub numberOf : Part → ℕ
 numberOf points-x = 0
 numberOf points-y = 1
 numberOf values = 2
 
+-- whether an object stores it
 abbrev pub needed : Need → Part → Bool
 needed n points-x = n .x .stored
 needed n points-y = n .y .stored
 needed n values = n .values
 
+-- its address
 abbrev pub addressOf : Places → Part → ℕ
 addressOf p points-x = p .x
 addressOf p points-y = p .y
 addressOf p values = p .values
 
+-- its data type
 abbrev pub typeOf : Layout → Part → ℕ
 typeOf l points-x = l .x .kind
 typeOf l points-y = l .y .kind
 typeOf l values = l .values .kind
 
+-- its points across: an axis's, and in x of the values
 abbrev pub acrossOf : Places → Part → ℕ
 acrossOf p points-x = p .cx
 acrossOf p points-y = p .cy
 acrossOf p values = p .cx
 
+-- its points down: one of an axis, and in y of the values
 abbrev pub downOf : Places → Part → ℕ
 downOf p points-x = 1
 downOf p points-y = 1

@@ -38,11 +38,11 @@ abbrev pub refusalOf : {A : Type 0} → Answer A → ℕ
 refusalOf (given a) = 0
 refusalOf (refused k) = k
 
--- the first refusal: k where a test fails
+-- the refusal k where a test fails, and else the answer
 abbrev pub unless : {A : Type 0} → Bool → ℕ → Answer A → Answer A
 unless good k a = cond good a (refused k)
 
--- "20 .. 22": so many lines of a list are lent ("a list below the tables' element count")
+-- "20, 22": `enough` says that no lent list is "below the tables' element count"
 unfoldable pub checked : {A : Type 0} → List ℕ → Lent → Bool → Answer A → Answer A
 checked t l enough a =
     unless (sizesFit (l .text) (l .image) (l .base) (length t) && enough) 20 (unless (keepsRule (l .text) (l .image) t) 22 a)
@@ -173,21 +173,24 @@ request o p i w = record { object = o; part = p; index = i; wanted = w }
 abbrev pub groupIn : Request → ℕ
 groupIn q = groupOf (q .object) (q .part)
 
--- "19: the element to write shares a byte with any stored count"
+-- f says true of a number below n
 unfoldable pub anyBelow : ℕ → (ℕ → Bool) → Bool
 anyBelow zero f = false
 anyBelow (suc n) f = anyBelow n f || f n
 
+-- group g has a stored count with one of the bytes from lo up to hi
 unfoldable pub isCounted : List ℕ → ℕ → ℕ → ℕ → Bool
 isCounted t lo hi g = shares lo hi (counterPlace (tablesIn t) g) (shapeOf (counter (tablesIn t) g) .bytes) && not (eqb (counter (tablesIn t) g) 0)
 
+-- "19: the element to write shares a byte with any stored count"
 unfoldable pub onCount : List ℕ → ℕ → ℕ → Bool
 onCount t lo hi = anyBelow (groups t) (isCounted t lo hi)
 
--- the coefficients that group g's values are asked by; whether it has a verbal table
+-- the coefficients that group g's values are asked by
 unfoldable pub asksBy : Tables → ℕ → Coefficients
 asksBy T g = cond (eqb (methodOf T g) 0) identicalOf (coefficients T (methodOf T g - 1))
 
+-- whether group g has a verbal table
 unfoldable pub isTabVerb : Tables → ℕ → Bool
 isTabVerb T g = not (eqb (methodOf T g) 0) && isVerbal (T .slots method (methodOf T g - 1) 0)
 
@@ -204,12 +207,13 @@ abbrev pub wantedRaw : Tables → ℕ → Wanted → Answer ℤ
 wantedRaw T g (rawNumber z) = unless (fitsRaw (shapeOf (kind T g)) (mask T g) z) 18 (given z)
 wantedRaw T g (physicalText s) = unless (not (isTabVerb T g)) 15 (askedRaw (limit T g 11) (limit T g 14) (asksBy T g) (shapeOf (kind T g)) (mask T g) s)
 
--- "Write order: 20, 22, 14, 21, 19, ..": what is judged of the element alone
+-- "21, 19": element i of group g may be written, and then the answer
 unfoldable pub free : {A : Type 0} → List ℕ → ℕ → ℕ → Answer A → Answer A
 free t g i a =
     unless (not (forbidden (tablesIn t) g)) 21
     (unless (not (onCount t (placeOf (tablesIn t) g i) (placeOf (tablesIn t) g i + bytes (tablesIn t) g))) 19 a)
 
+-- "Write order: 20, 22, 14, 21, 19, ..": what is judged of the element, whatever is asked of it
 unfoldable pub standing : {A : Type 0} → List ℕ → Lent → Bool → ℕ → ℕ → ℕ → Answer A → Answer A
 standing t l enough o p i a = checked t l enough (unless (isElement (tablesIn t) o p i) 14 (free t (groupOf o p) i a))
 
@@ -219,7 +223,7 @@ freeNo t g i = refusalOf (free t g i (given (tt {0})))
 abbrev pub standingNo : List ℕ → Lent → Bool → ℕ → ℕ → ℕ → ℕ
 standingNo t l enough o p i = refusalOf (standing t l enough o p i (given (tt {0})))
 
--- ".. 15, 16, 17, 18.": the raw number that is stored. No byte of the image is looked at.
+-- "Write order: .. 15, 16, 17, 18.": the raw number that a request stores. No byte of the image is looked at.
 unfoldable pub judged : List ℕ → Lent → Bool → Request → Answer ℤ
 judged t l enough q = standing t l enough (q .object) (q .part) (q .index) (wantedRaw (tablesIn t) (groupIn q) (q .wanted))
 

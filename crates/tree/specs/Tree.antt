@@ -56,7 +56,7 @@ kept j n vs d = cond (eqb n 0) d (written j n vs d)
 unfoldable pub appended : ℕ → List ℕ → Records → Records
 appended j vs d = written j 0 vs (add sections d j)
 
--- number n of it is from low to high (n 0: always)
+-- number n of section j's current record is from low to high (n 0: always)
 abbrev pub Within : Records → ℕ → ℕ → ℕ → ℕ → Type 0
 Within d j n low high = (n ≡ 0) ⊎ ((low ≤ current d j n) × (current d j n ≤ high))
 
@@ -70,10 +70,11 @@ Comes x k t a e = nextToken x k ≡ given (piece.piece t a e)
 abbrev pub Word : List ℕ → ℕ → word.Kind → ℕ → Type 0
 Word x k w e = (a : ℕ) × Comes x k piece.name a e × (classAt x a e ≡ w)
 
--- the next token is a whole number of at most h, a decimal
+-- the next token is the whole number n, which is at most h
 abbrev pub Whole : List ℕ → ℕ → ℕ → ℕ → ℕ → Type 0
 Whole x k h n e = (a : ℕ) × Comes x k piece.number a e × (inRun (wholeOf h) x a e ≡ number.given n)
 
+-- the next token is the decimal m
 abbrev pub Decimal : List ℕ → ℕ → Scaled → ℕ → Type 0
 Decimal x k m e = (a : ℕ) × Comes x k piece.number a e × (inRun decimalOf x a e ≡ number.given m)
 
@@ -152,7 +153,7 @@ pub record Stands (x : List ℕ) (home b : ℕ) (r : Row) (k : ℕ) (d : Records
 abbrev pub Met : Records → ℕ → Type 0
 Met d b = (n : Need) → Among n needed → n .block ≡ b → Within d (n .sec) (n .when) (n .low) (n .high) → n .least ≤ current d (n .sec) (n .slot)
 
--- a row that neither opens a block nor refuses its keyword: "BYTE_ORDER inside AXIS_DESCR is 9"
+-- what a row says that neither opens a block nor refuses its keyword ("BYTE_ORDER inside AXIS_DESCR is 9")
 abbrev pub plain : ℕ
 plain = 0
 

@@ -1,1 +1,1 @@
-// What an accepted description is, said without the reader: theorems alone, in specs and proofs.
+// What an accepted description is, said as its tree, without the reader's states and steps: theorems alone, in specs and proofs.

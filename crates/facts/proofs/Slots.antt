@@ -2,7 +2,7 @@
 --     clear-slot      a slot that is not among those written
 --     other-slot      a record that is not the last
 --     written-slot    a slot of the last record that is written
---     more-records, same-count      how many records there are after it
+--     more-records, same-count, one-record      how many records there are after it
 --     start-slot      at the start every slot is 0
 use Prim.Native.Nat.{ℕ, zero, suc, _+_, _-_, _≤_, _<_}
 use mathlib.Core.Path.{_≡_, refl, sym, _∙_, ap}
@@ -10,12 +10,12 @@ use mathlib.Core.List.{List, [], _∷_, _++_}
 use mathlib.Core.Bool.{Bool, true, false, cond}
 use mathlib.Core.Logic.{_⊎_, inl, inr}
 use native.Mathlib.Omega.{arith}
-use borrow.Author.Tests.{ltb-true, ltb-false, eqb-true, eqb-false}
+use borrow.Author.Tests.{ltb-true, ltb-false, lt-ltb, eqb-true, eqb-false}
 use lib.Dec.{ltb, eqb}
 use lib.ListN.{length, getD, set, take, replicate, length-set, length-append}
 use lib.Seq.{set-out, set-getD, getD-set-same, getD-set-other}
-use Rattle.records.specs.Records.{widthOf, mostOf, recordsOf, count, slot, put, add, empty}
-use Rattle.records.proofs.Encode.{Good, good-add, good-put, fit-wide, wide-at}
+use Rattle.records.specs.Records.{Sec, widthOf, mostOf, recordsOf, count, slot, put, add, empty}
+use Rattle.records.proofs.Encode.{Fit, Good, good-add, good-put, fit-wide, wide-at}
 use Rattle.rows.specs.Sections.{sections, file}
 use Rattle.grammar.specs.Move.{values, puts, added, applied}
 use Rattle.grammar.specs.Read.{start}
@@ -65,7 +65,7 @@ module _ (d : List (List (List ℕ))) (j i k v : ℕ) where
 
 -- ---- several stores
 
-count-puts : (d : List (List (List ℕ))) (j i k : ℕ) (vs : List ℕ) (j′ : ℕ) → count (puts d j i k vs) j′ ≡ count d j′
+pub count-puts : (d : List (List (List ℕ))) (j i k : ℕ) (vs : List ℕ) (j′ : ℕ) → count (puts d j i k vs) j′ ≡ count d j′
 count-puts d j i k [] j′ = refl
 count-puts d j i k (v ∷ vs) j′ = count-puts (put d j i k v) j i (suc k) vs j′ ∙ count-put d j i k v j′
 
@@ -156,6 +156,19 @@ module _ (d : List (List (List ℕ))) (j : ℕ) where
     by-section true p = rw (eqb-true j′ j p) (by-room (ltb (count d j) (mostOf sections j)))
     by-section false p = omega (arith, count-other j′ (eqb-false j′ j p))
 
+-- where there is room
+module _ (r : List (List ℕ)) where
+  set-count : (ss : List Sec) (d : List (List (List ℕ))) (j : ℕ) → Fit ss d → count d j < mostOf ss j → count (set d j r) j ≡ length r
+  set-count [] d j f l = absurd (omega arith)
+  set-count (s ∷ ss) [] j f l = absurd f
+  set-count (s ∷ ss) (e ∷ d) zero f l = refl
+  set-count (s ∷ ss) (e ∷ d) (suc j) f l = set-count ss d j (f .2) l
+
+count-room : (d : List (List (List ℕ))) (j : ℕ) → Good sections d → count d j < mostOf sections j → count (add sections d j) j ≡ suc (count d j)
+count-room d j g l =
+    rw (lt-ltb (count d j) (mostOf sections j) l)
+    (set-count (longer d j) sections d j g l ∙ length-append (recordsOf d j) (replicate (widthOf sections j) 0 ∷ []) ∙ omega arith)
+
 -- ---- an act
 
 few : (m : ℕ) (l : List ℕ) → length (take m l) ≤ m
@@ -204,6 +217,10 @@ module _ (a : Act) (d : List (List (List ℕ))) where
   pub same-count : (j : ℕ) → (j ≡ a .adds → ⊥) → count (applied a d) j ≡ count d j
   unfolding applied
   same-count j h = count-puts (added a d) (a .sec) (count (added a d) (a .sec) - 1) (a .slot) (values a) j ∙ count-other d (a .adds) j h
+
+  pub one-record : Good sections d → count d (a .adds) < mostOf sections (a .adds) → count (applied a d) (a .adds) ≡ suc (count d (a .adds))
+  unfolding applied
+  one-record g l = count-puts (added a d) (a .sec) (count (added a d) (a .sec) - 1) (a .slot) (values a) (a .adds) ∙ count-room d (a .adds) g l
 
 -- ---- the start
 

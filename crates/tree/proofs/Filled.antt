@@ -117,7 +117,7 @@ among-four m (inr (inr (inl e))) = rw e
 among-four m (inr (inr (inr (inl e)))) = rw e
 among-four m (inr (inr (inr (inr e)))) = absurd e
 
-four-least : (m : ℕ) → Among m (1 ∷ 2 ∷ 4 ∷ 8 ∷ []) → 1 ≤ m
+pub four-least : (m : ℕ) → Among m (1 ∷ 2 ∷ 4 ∷ 8 ∷ []) → 1 ≤ m
 four-least m (inl e) = omega arith
 four-least m (inr (inl e)) = omega arith
 four-least m (inr (inr (inl e))) = omega arith

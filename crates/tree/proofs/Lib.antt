@@ -11,4 +11,7 @@ pub mod Keywords
 pub mod Values
 pub mod Sound
 pub mod Accepted
+pub mod Leaves
+pub mod RowKinds
+pub mod Points
 pub mod Examples

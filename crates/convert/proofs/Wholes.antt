@@ -14,7 +14,7 @@ use Rattle.convert.specs.declared.method.Coefficients.{Coefficients}
 use Rattle.convert.specs.Whole.{signedOf, eqZ, small, allSmall, Small}
 
 -- `x == y` of two computed numbers compares their bits
-same-bits : (z w : ℤ) → mag z < 2 ^ 63 → mag w < 2 ^ 63 → eqb (ofZ w64 z) (ofZ w64 w) ≡ eqZ z w
+pub same-bits : (z w : ℤ) → mag z < 2 ^ 63 → mag w < 2 ^ 63 → eqb (ofZ w64 z) (ofZ w64 w) ≡ eqZ z w
 same-bits (pos a) (pos b) h k = refl
 same-bits (pos a) (negsuc b) h k = ne-eqb a (2 ^ 64 - suc b) (λ e. omega arith)
 same-bits (negsuc a) (pos b) h k = ne-eqb (2 ^ 64 - suc a) b (λ e. omega arith)

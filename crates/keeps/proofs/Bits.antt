@@ -1,7 +1,7 @@
 -- Small laws: tests joined, flags, and sums and tests over the three parts of each object.
 use Prim.Native.Nat.{ℕ, zero, suc, _+_, _*_, _≤_, _<_}
 use mathlib.Core.Path.{_≡_, refl, _∙_}
-use mathlib.Core.Bool.{Bool, true, false, not, _&&_, _||_, false≢true}
+use mathlib.Core.Bool.{Bool, true, false, cond, not, _&&_, _||_, false≢true}
 use native.Mathlib.Omega.{arith}
 use lib.Dec.{eqb}
 use Rattle.tables.specs.Rule.{allBelow}
@@ -23,6 +23,11 @@ or-right false p = p
 pub wanted : (a b : Bool) → (not a || b) ≡ true → a ≡ true → b ≡ true
 wanted true b h e = h
 wanted false b h e = absurd (false≢true e)
+
+-- two choices by one test
+pub both-test : {A B : Type 0} (R : A → B → Type 0) (t : Bool) {x y : A} {u v : B} → (t ≡ true → R x u) → (t ≡ false → R y v) → R (cond t x y) (cond t u v)
+both-test R true p q = p refl
+both-test R false p q = q refl
 
 -- ---- flags
 

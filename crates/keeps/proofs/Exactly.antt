@@ -260,7 +260,8 @@ module _ (image : List ℕ) (base : ℕ) (x : List ℕ) where
     few : count d object ≤ 512
     few = within-of d (read-keeps x d r .good) .objects
 
-    stages : referred x (view d) ≡ given tt → converts (view d) ≡ given tt → (n : ℕ) → judgeAll image base x (view d) ≡ given n → Accepted image base x d
+    -- the rules of all stages hold
+    pub stages : referred x (view d) ≡ given tt → converts (view d) ≡ given tt → (n : ℕ) → judgeAll image base x (view d) ≡ given n → Accepted image base x d
     stages p q n j =
         record {
           references = λ s m i l z. referred-each x (view d) p s m i l z (omega (arith, text-some (s .sec) (s .slot) (row-text s m) x d r i z, text-inside (s .sec) (s .slot) (row-text s m) x d r i .1));

@@ -2,8 +2,10 @@
 pub mod Bits
 pub mod Parts
 pub mod Stood
+pub mod Counts
 pub mod Rows
 pub mod Groups
+pub mod Objects
 pub mod Exactly
 pub mod Refused
 pub mod Rule

@@ -2,7 +2,7 @@
 use Prim.Native.Nat.{ℕ, zero, suc, _+_, _*_, _%_, _≤_, _<_, min}
 use mathlib.Core.Path.{_≡_, refl, sym, _∙_, ap}
 use mathlib.Core.List.{[], _∷_}
-use mathlib.Core.Bool.{true, _&&_, _||_}
+use mathlib.Core.Bool.{true, false, not, _&&_, _||_}
 use mathlib.Core.Logic.{_⊎_, inl, inr}
 use native.Mathlib.Omega.{arith}
 use borrow.Author.Tests.{le-leb, eq-eqb, ne-eqb, lt-ltb, le-ltb, leb-true}
@@ -39,6 +39,9 @@ module _ (T : Tables) (g m : ℕ) where
     unfolding groupRule noPart
     none-keeps = rw (eq-eqb (kind T g) 0 (none-slot 0)) (all-of 19 (λ k. eqb (T .slots group g k) 0) (λ k l. eq-eqb (T .slots group g k) 0 (none-slot k)))
 
+    pub none-stored : not (eqb (kind T g) 0) ≡ false
+    none-stored = rw (none-slot 0)
+
     pub none-elements : elements T g ≡ 0
     none-elements = rw (none-slot 3) (omega arith)
 
@@ -49,7 +52,9 @@ module _ (T : Tables) (g m : ℕ) where
     pub record Fine : Type 0 where
       pub type : isType k ≡ true
       pub order : o ≤ 1
+      pub some-x : 1 ≤ cx
       pub few-x : cx ≤ 4096
+      pub some-y : 1 ≤ cy
       pub few-y : cy ≤ 4096
       pub bytes-in : p + shapeOf k .bytes * (cx * cy) ≤ m
       pub role : roleRule T g m ≡ true
@@ -66,10 +71,10 @@ module _ (T : Tables) (g m : ℕ) where
     pub part-elements : cx ≤ 4096 → cy ≤ 4096 → elements T g ≡ cx * cy
     part-elements l n = rw (x-is l, y-is n)
 
-    points-kept : cx ≤ 4096 → cy ≤ 4096 → pointsRule T g ≡ true
+    points-kept : 1 ≤ cx → cx ≤ 4096 → 1 ≤ cy → cy ≤ 4096 → pointsRule T g ≡ true
     unfolding pointsRule
-    points-kept l n =
-        and (and (and (le-leb (x T g) 4096 (omega (arith, h 3))) (le-leb (y T g) 4096 (omega (arith, h 4))))
+    points-kept ox l oy n =
+        and (and (and (and (and (le-leb 1 (x T g) (omega (arith, h 3))) (le-leb (x T g) 4096 (omega (arith, h 3)))) (le-leb 1 (y T g) (omega (arith, h 4)))) (le-leb (y T g) 4096 (omega (arith, h 4))))
         (eq-eqb (wide T g) (x T g) (omega (arith, h 3, h 5)))) (eq-eqb (high T g) (y T g) (omega (arith, h 4, h 6)))
 
     bytes-kept : cx ≤ 4096 → cy ≤ 4096 → p + shapeOf k .bytes * (cx * cy) ≤ m → bytesRule T g m ≡ true
@@ -87,8 +92,11 @@ module _ (T : Tables) (g m : ℕ) where
     part-keeps t =
         let n : isType (kind T g) ≡ true = rw (h 0) (t .type) in
         rw (ne-eqb (kind T g) 0 (λ s. typed k (t .type) (sym (h 0) ∙ s)))
-        (and (and (and (and (and (and (and n (le-leb (T .slots group g 1) 1 (omega (arith, h 1, t .order)))) (points-kept (t .few-x) (t .few-y))) (bytes-kept (t .few-x) (t .few-y) (t .bytes-in))) (t .role))
+        (and (and (and (and (and (and (and n (le-leb (T .slots group g 1) 1 (omega (arith, h 1, t .order)))) (points-kept (t .some-x) (t .few-x) (t .some-y) (t .few-y))) (bytes-kept (t .few-x) (t .few-y) (t .bytes-in))) (t .role))
         (le-leb (methodOf T g) (T .counts method) (omega (arith, h 8, t .its-method)))) (le-leb (T .slots group g 10) 1 (omega (arith, h 10, t .only)))) (t .limits))
+
+    pub part-stored : isType k ≡ true → not (eqb (kind T g) 0) ≡ true
+    part-stored t = rw (ne-eqb (kind T g) 0 (λ s. typed k t (sym (h 0) ∙ s)))
 
     -- the limits are the decimals whose numbers stand there
     pub limits-keep : (s u : Scaled) → a ≡ flag (s .negative) → b ≡ s .whole → c ≡ s .tens → d ≡ flag (u .negative) → e ≡ u .whole → r ≡ u .tens

@@ -1,5 +1,5 @@
--- Objects, methods, verbal tables and entries of the tables that are built keep the table rule.
-use Prim.Native.Nat.{ℕ, zero, suc, _+_, _-_, _≤_, _<_, min}
+-- Methods, verbal tables and entries of the tables that are built keep the table rule.
+use Prim.Native.Nat.{ℕ, zero, suc, _+_, _-_, _^_, _≤_, _<_, min, max}
 use mathlib.Core.Path.{_≡_, refl, _∙_, ap}
 use mathlib.Core.List.{List, [], _∷_, _++_}
 use mathlib.Core.Bool.{Bool, true, false, cond, not, _&&_, false≢true}
@@ -12,44 +12,34 @@ use lib.ListN.{length, getD, replicate}
 use Rattle.text.specs.Answer as text
 use Rattle.text.proofs.Within.{and-left, and-right, by-test}
 use Rattle.number.specs.Answer.{Answer, given, refused}
+use Rattle.number.specs.Decimal.{Scaled}
 use Rattle.number.specs.Form.{isGiven}
-use Rattle.convert.specs.Whole.{signedOf, small, allSmall}
+use Rattle.convert.specs.Whole.{signedOf, eqZ, small, allSmall}
 use Rattle.convert.specs.Limit.{formed}
+use Rattle.convert.proofs.Limits.{formed-facts}
 use Rattle.convert.specs.Method.{sameProducts, sound, judged, ratFuncAt, ratFunc, linearAt, linearOf, identicalOf}
 use Rattle.convert.specs.declared.method.Coefficients.{Coefficients}
 use Rattle.records.specs.Records.{count, slot}
-use Rattle.rows.specs.Codes.{AXIS-PTS, CHARACTERISTIC, VAL-BLK, CURVE, MAP, LINEAR, RAT-FUNC, TAB-VERB}
+use Rattle.rows.specs.Codes.{LINEAR, RAT-FUNC, TAB-VERB}
 use Rattle.rows.specs.Sections as records
 use Rattle.grammar.specs.Move.{View, view}
 use Rattle.methods.specs.Methods as methods
-use Rattle.methods.specs.Methods.{coefficients, convertsFrom, converts}
+use Rattle.methods.specs.Methods.{decimalAt, coefficients, convertsFrom, converts}
 use Rattle.facts.specs.Facts.{Inside, Kept}
 use Rattle.objects.proofs.Each.{find-below}
 use Rattle.tables.specs.Form as form
-use Rattle.tables.specs.Form.{object, method, table, entry, Tables, tablesOf, coefficient}
-use Rattle.tables.specs.Rule.{isObject, isFraction, isVerbal, textRule, objectRule, verbalRule, signsRule, fractionRule, methodRule, tableRule, entryRule}
-use Rattle.tables.proofs.All.{all-of}
-use Rattle.build.specs.Build.{flag, typeOf, whatOf, isBelow, wholeOf, conversionOf, tableNumber, verbalRow, fractionRow, methodRow, entriesEnd, built}
-use Rattle.build.proofs.BuiltLaws.{Within, within-of, count-tables, count-entries, slot-object, slot-method, slot-table, slot-entry}
-use Rattle.keeps.proofs.Bits.{and, flag-least}
+use Rattle.tables.specs.Form.{method, table, entry, Tables, tablesOf, coefficient}
+use Rattle.tables.specs.Rule.{anyBelow, linearRule, identicalRule, wordRule, isFraction, isVerbal, textRule, verbalRule, signsRule, fractionRule, methodRule, tableRule, entryRule}
+use Rattle.tables.proofs.All.{all-of, any-at}
+use Rattle.build.specs.Build.{flag, isBelow, wholeOf, conversionOf, tableNumber, verbalRow, fractionRow, methodRow, entriesEnd, built}
+use Rattle.build.proofs.BuiltLaws.{Within, within-of, count-tables, count-entries, slot-method, slot-table, slot-entry}
+use Rattle.keeps.proofs.Bits.{and, both-test, flag-least}
 
--- ---- texts and kinds
+-- ---- texts
 
-text-keeps : (n a e b f : ℕ) → b ≡ a → f ≡ e → Inside n a e → textRule n b f ≡ true
+pub text-keeps : (n a e b f : ℕ) → b ≡ a → f ≡ e → Inside n a e → textRule n b f ≡ true
 unfolding textRule
 text-keeps n a e b f p q h = and (le-leb b f (omega (arith, h .0))) (le-leb f n (omega (arith, h .1)))
-
-type-object : (k : ℕ) → isObject (typeOf k) ≡ true
-unfolding typeOf
-type-object k =
-    by-test (λ (n : ℕ). isObject n ≡ true) (eqb k VAL-BLK) (λ t. refl)
-    (λ t. by-test (λ (n : ℕ). isObject n ≡ true) (eqb k CURVE) (λ s. refl) (λ s. by-test (λ (n : ℕ). isObject n ≡ true) (eqb k MAP) (λ r. refl) (λ r. refl)))
-
-what-object : (v : View) (i : ℕ) → isObject (whatOf v i) ≡ true
-unfolding whatOf
-what-object v i =
-    by-test (λ (n : ℕ). isObject n ≡ true) (eqb (v .slots records.object i 3) AXIS-PTS) (λ t. refl)
-    (λ t. by-test (λ (n : ℕ). isObject n ≡ true) (eqb (v .slots records.object i 3) CHARACTERISTIC) (λ s. type-object (v .slots records.object i 4)) (λ s. refl))
 
 -- ---- coefficients
 
@@ -78,6 +68,33 @@ unfolding coefficients
 coefficients-sound v i =
     by-test Judged (eqb (v .slots records.method i 4) LINEAR) (λ t. linear-sound v i)
     (λ t. by-test Judged (eqb (v .slots records.method i 4) RAT-FUNC) (λ s. rat-func-sound v i) (λ s e. identical-sound))
+
+-- ---- the coefficients that a conversion's word asks for
+
+linear-word : (t : ℕ) (a b : Scaled) → t ≤ 6 → linearRule (linearAt t a b) ≡ true
+unfolding linearRule
+linear-word t a b h = and (any-at 7 (λ (n : ℕ). eqZ (pos (10 ^ t)) (pos (10 ^ n))) t (omega arith) (eq-eqb (10 ^ t) (10 ^ t) refl)) refl
+
+identical-linear : linearRule identicalOf ≡ true
+unfolding linearRule anyBelow
+identical-linear = refl
+
+linear-keeps : (v : View) (i : ℕ) → linearRule (wholeOf (methods.linearAt v i)) ≡ true
+unfolding methods.linearAt linearOf judged
+linear-keeps v i =
+    let a : Scaled = decimalAt v i 19 in
+    let b : Scaled = decimalAt v i 22 in
+    by-test (λ (z : Answer Coefficients). linearRule (wholeOf z) ≡ true) (formed a && formed b)
+    (λ t. by-test (λ (z : Answer Coefficients). linearRule (wholeOf z) ≡ true) (sound (linearAt (max (a .tens) (b .tens)) a b))
+    (λ u. linear-word (max (a .tens) (b .tens)) a b (omega (arith, formed-facts a (and-left (formed a) (formed b) t) .tens-most, formed-facts b (and-right (formed a) (formed b) t) .tens-most)))
+    (λ u. identical-linear))
+    (λ t. identical-linear)
+
+word-keeps : (v : View) (i : ℕ) → wordRule (conversionOf v i) (wholeOf (coefficients v i)) ≡ true
+unfolding conversionOf coefficients wordRule identicalRule
+word-keeps v i =
+    both-test (λ (w : ℕ) (z : Answer Coefficients). wordRule w (wholeOf z) ≡ true) (eqb (v .slots records.method i 4) LINEAR) (λ t. linear-keeps v i)
+    (λ t. both-test (λ (w : ℕ) (z : Answer Coefficients). wordRule w (wholeOf z) ≡ true) (eqb (v .slots records.method i 4) RAT-FUNC) (λ s. refl) (λ s. refl))
 
 -- where the conversions are accepted each method has coefficients
 converts-each : (f : ℕ) (v : View) (i : ℕ) → convertsFrom f v i ≡ text.given tt → (k : ℕ) → k < f → isGiven (coefficients v (i + k)) ≡ true
@@ -165,12 +182,12 @@ module _ (T : Tables) (i : ℕ) where
       fourth : natAbs (k .f) ≤ 1000000000 → coefficient T i 7 ≡ k .f
       fourth l = rw (h 7, h 8) (signed-back (k .f) l)
 
-    fraction-keeps : sound k ≡ true → methodRule T i ≡ true
+    fraction-keeps : sound k ≡ true → wordRule (conversionOf v j) k ≡ true → methodRule T i ≡ true
     unfolding methodRule fractionRule
-    fraction-keeps e =
+    fraction-keeps e f =
         let c : isVerbal (T .slots method i 0) ≡ false = rw (h 0) (conversion-kind .1) in
         let d : isFraction (T .slots method i 0) ≡ true = rw (h 0) (conversion-kind .0) in
-        rw c (and (and (and d signs-keep) (rw (coefficients-are e) e)) (eq-eqb (T .slots method i 9) 0 (h 9)))
+        rw c (and (and (and (and d signs-keep) (rw (coefficients-are e) e)) (rw (coefficients-are e, h 0) f)) (eq-eqb (T .slots method i 9) 0 (h 9)))
 
 module _ (image : List ℕ) (base : ℕ) (x : List ℕ) (d : List (List (List ℕ))) (n : ℕ) (k : Kept x d) where
   abbrev T : Tables
@@ -178,13 +195,6 @@ module _ (image : List ℕ) (base : ℕ) (x : List ℕ) (d : List (List (List �
 
   w : Within (view d)
   w = within-of d (k .good)
-
-  pub object-keeps : (i : ℕ) → i < count d records.object → objectRule T (length x) i ≡ true
-  unfolding objectRule
-  object-keeps i h =
-      let e = slot-object image base x (view d) n w i in
-      and (text-keeps (length x) (slot d records.object i 0) (slot d records.object i 1) (T .slots object i 0) (T .slots object i 1) (e 0 h) (e 1 h) (k .names records.object i refl))
-      (ap isObject (e 2 h) ∙ what-object (view d) i)
 
   pub method-keeps : converts (view d) ≡ text.given tt → (i : ℕ) → i < count d records.method → methodRule T i ≡ true
   unfolding methodRow
@@ -199,7 +209,7 @@ module _ (image : List ℕ) (base : ℕ) (x : List ℕ) (d : List (List (List �
     verbal e q = verbal-keeps T i t q (eqb-false t 0 (not-true (eqb t 0) (and-right (eqb (slot d records.method i 4) TAB-VERB) (not (eqb t 0)) e))) few
 
     fraction : Holds T i (fractionRow (view d) i) → methodRule T i ≡ true
-    fraction q = fraction-keeps T i (view d) i (wholeOf (coefficients (view d) i)) q (coefficients-sound (view d) i (converted (view d) c i h))
+    fraction q = fraction-keeps T i (view d) i (wholeOf (coefficients (view d) i)) q (coefficients-sound (view d) i (converted (view d) c i h)) (word-keeps (view d) i)
 
     row : Holds T i (methodRow x (view d) i) → methodRule T i ≡ true
     row = by-test (λ (r : List ℕ). Holds T i r → methodRule T i ≡ true) (eqb (slot d records.method i 4) TAB-VERB && not (eqb t 0)) verbal (λ e. fraction)

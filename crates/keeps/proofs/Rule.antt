@@ -17,6 +17,7 @@ use Rattle.records.specs.Cells.{room, encode}
 use Rattle.rows.specs.Sections as records
 use Rattle.grammar.specs.Move.{view}
 use Rattle.grammar.specs.Read.{read}
+use Rattle.refer.specs.Refer.{referred}
 use Rattle.methods.specs.Methods.{converts}
 use Rattle.place.specs.Judge as place
 use Rattle.objects.specs.Object.{elementsOf}
@@ -27,6 +28,8 @@ use Rattle.objects.proofs.Each.{Stands, judge-all-each}
 use Rattle.objects.proofs.Totals.{total-is, total-most}
 use Rattle.facts.specs.Facts.{Kept}
 use Rattle.facts.proofs.Keeps.{read-keeps}
+use Rattle.tree.specs.Points.{Pointed}
+use Rattle.tree.proofs.Points.{read-pointed}
 use Rattle.tables.specs.Form.{sections, head, object, group, method, table, entry, Tables, tablesOf, total}
 use Rattle.tables.specs.Group.{sumBelow, elements}
 use Rattle.tables.specs.Rule.{allBelow, objectRule, groupRule, methodRule, tableRule, entryRule, headRule, ruled, keepsRule}
@@ -38,9 +41,11 @@ use Rattle.tables.specs.Sizes.{sizesFit}
 use Rattle.load.specs.Load.{described, Loaded, left, loaded}
 use Rattle.keeps.proofs.Bits.{and, all-threes, sum-threes}
 use Rattle.keeps.proofs.Stood.{Stood, share-stood}
-use Rattle.keeps.proofs.Rows.{object-keeps, method-keeps, table-keeps, entry-keeps}
-use Rattle.keeps.proofs.Groups.{x-ruling, y-ruling, values-ruling}
-use Rattle.keeps.proofs.Exactly.{Drawn, drawn}
+use Rattle.keeps.proofs.Counts.{Shares, shares, some-points}
+use Rattle.keeps.proofs.Rows.{method-keeps, table-keeps, entry-keeps}
+use Rattle.keeps.proofs.Groups.{Pointing, x-ruling, y-ruling, values-ruling}
+use Rattle.keeps.proofs.Objects.{object-keeps}
+use Rattle.keeps.proofs.Exactly.{stages, Drawn, drawn}
 
 module _ (image : List ℕ) (base : ℕ) (x : List ℕ) (d : List (List (List ℕ))) (n : ℕ) (k : Kept x d) (j : judgeAll image base x (view d) ≡ given n) where
   abbrev T : Tables
@@ -55,42 +60,48 @@ module _ (image : List ℕ) (base : ℕ) (x : List ℕ) (d : List (List (List �
       let s : Stands image base x (view d) i = judge-all-each image base x (view d) n j i l in
       share-stood image base x (view d) i (s .used) (s .standing) (share image base x (view d) i (s .used) (s .standing) (s .is))
 
-  groups-keep : allBelow (T .counts group) (λ g. groupRule T g (length image)) ≡ true
-  groups-keep = rw (count-groups image base x (view d) n w) (all-threes (count d records.object) (λ g. groupRule T g (length image)) each) where
-    each : (i : ℕ) → i < count d records.object → (groupRule T (i * 3) (length image) ≡ true) × (groupRule T (i * 3 + 1) (length image) ≡ true) × (groupRule T (i * 3 + 2) (length image) ≡ true)
-    each i l = (x-ruling image base x d n k i l (stood i l) .keeps, y-ruling image base x d n k i l (stood i l) .keeps, values-ruling image base x d n k i l (stood i l) .keeps)
+  -- where each AXIS_PTS_REF leads to an AXIS_PTS, each has a point in x and in y
+  module _ (p : Pointed d) (f : Shares x d) where
+    pointing : (i : ℕ) (l : i < count d records.object) → Pointing image base x d n k i l (stood i l)
+    pointing i l = some-points image base x d k p f stood i l
 
-  -- an object's elements are those of its three groups
-  three-are : (i : ℕ) → i < count d records.object → elementsOf image base x (view d) i ≡ elements T (i * 3) + elements T (i * 3 + 1) + elements T (i * 3 + 2)
-  unfolding elementsOf place.elements
-  three-are i l =
-      rw (x-ruling image base x d n k i l (stood i l) .many-is, y-ruling image base x d n k i l (stood i l) .many-is, values-ruling image base x d n k i l (stood i l) .many-is)
+    groups-keep : allBelow (T .counts group) (λ g. groupRule T g (length image)) ≡ true
+    groups-keep = rw (count-groups image base x (view d) n w) (all-threes (count d records.object) (λ g. groupRule T g (length image)) each) where
+      each : (i : ℕ) → i < count d records.object → (groupRule T (i * 3) (length image) ≡ true) × (groupRule T (i * 3 + 1) (length image) ≡ true) × (groupRule T (i * 3 + 2) (length image) ≡ true)
+      each i l = (x-ruling image base x d n k i l (stood i l) (pointing i l) .keeps, y-ruling image base x d n k i l (stood i l) (pointing i l) .keeps, values-ruling image base x d n k i l (stood i l) (pointing i l) .keeps)
 
-  total-sum : n ≡ sumBelow (count d records.object * 3) (elements T)
-  total-sum = total-is image base x (view d) (w .objects) n j ∙ sum-threes (count d records.object) (elements T) (elementsOf image base x (view d)) three-are
+    -- an object's elements are those of its three groups
+    three-are : (i : ℕ) → i < count d records.object → elementsOf image base x (view d) i ≡ elements T (i * 3) + elements T (i * 3 + 1) + elements T (i * 3 + 2)
+    unfolding elementsOf place.elements
+    three-are i l =
+        rw (x-ruling image base x d n k i l (stood i l) (pointing i l) .many-is, y-ruling image base x d n k i l (stood i l) (pointing i l) .many-is, values-ruling image base x d n k i l (stood i l) (pointing i l) .many-is)
 
-  head-keeps : headRule T ≡ true
-  unfolding headRule
-  head-keeps =
-      let e = slot-head image base x (view d) n w in
-      let c : sumBelow (T .counts group) (elements T) ≡ n = ap (λ m. sumBelow m (elements T)) (count-groups image base x (view d) n w) ∙ sym total-sum in
-      let o : T .counts group ≡ T .counts object * 3 = count-groups image base x (view d) n w ∙ ap (λ m. m * 3) (sym (count-objects image base x (view d) n w)) in
-      and (and (and (and (and (eq-eqb (T .counts head) 1 (count-head image base x (view d) n w)) (eq-eqb (T .slots head 0 0) 0 (e 0))) (eq-eqb (T .slots head 0 1) 0 (e 1)))
-      (eq-eqb (total T) (sumBelow (T .counts group) (elements T)) (e 2 ∙ sym c))) (le-leb (total T) 4096 (omega (arith, e 2, total-most image base x (view d) (w .objects) n j)))) (eq-eqb (T .counts group) (T .counts object * 3) o)
+    total-sum : n ≡ sumBelow (count d records.object * 3) (elements T)
+    total-sum = total-is image base x (view d) (w .objects) n j ∙ sum-threes (count d records.object) (elements T) (elementsOf image base x (view d)) three-are
 
-  kept-ruled : converts (view d) ≡ given tt → ruled T (length x) (length image) ≡ true
-  unfolding ruled
-  kept-ruled c =
-      and (and (and (and (and head-keeps
-      (rw (count-objects image base x (view d) n w) (all-of (count d records.object) (objectRule T (length x)) (object-keeps image base x d n k)))) groups-keep)
-      (rw (count-methods image base x (view d) n w) (all-of (count d records.method) (methodRule T) (method-keeps image base x d n k c))))
-      (rw (count-tables image base x (view d) n w) (all-of (count d records.table) (tableRule T (length x)) (table-keeps image base x d n k))))
-      (rw (count-entries image base x (view d) n w) (all-of (count d records.entry) (entryRule T (length x)) (entry-keeps image base x d n k)))
+    head-keeps : headRule T ≡ true
+    unfolding headRule
+    head-keeps =
+        let e = slot-head image base x (view d) n w in
+        let c : sumBelow (T .counts group) (elements T) ≡ n = ap (λ m. sumBelow m (elements T)) (count-groups image base x (view d) n w) ∙ sym total-sum in
+        let o : T .counts group ≡ T .counts object * 3 = count-groups image base x (view d) n w ∙ ap (λ m. m * 3) (sym (count-objects image base x (view d) n w)) in
+        and (and (and (and (and (eq-eqb (T .counts head) 1 (count-head image base x (view d) n w)) (eq-eqb (T .slots head 0 0) 0 (e 0))) (eq-eqb (T .slots head 0 1) 0 (e 1)))
+        (eq-eqb (total T) (sumBelow (T .counts group) (elements T)) (e 2 ∙ sym c))) (le-leb (total T) 4096 (omega (arith, e 2, total-most image base x (view d) (w .objects) n j)))) (eq-eqb (T .counts group) (T .counts object * 3) o)
+
+    kept-ruled : converts (view d) ≡ given tt → ruled T (length x) (length image) ≡ true
+    unfolding ruled
+    kept-ruled c =
+        and (and (and (and (and head-keeps
+        (rw (count-objects image base x (view d) n w) (all-of (count d records.object) (objectRule T (length x)) (λ i l. object-keeps image base x d n k i l (stood i l) (pointing i l))))) groups-keep)
+        (rw (count-methods image base x (view d) n w) (all-of (count d records.method) (methodRule T) (method-keeps image base x d n k c))))
+        (rw (count-tables image base x (view d) n w) (all-of (count d records.table) (tableRule T (length x)) (table-keeps image base x d n k))))
+        (rw (count-entries image base x (view d) n w) (all-of (count d records.entry) (entryRule T (length x)) (entry-keeps image base x d n k)))
 
 -- the tables that are built from the records of an accepted description
-pub built-keeps : (image x : List ℕ) (base n : ℕ) (d : List (List (List ℕ))) → read x ≡ given d → converts (view d) ≡ given tt → judgeAll image base x (view d) ≡ given n
+pub built-keeps : (image x : List ℕ) (base n : ℕ) (d : List (List (List ℕ))) → read x ≡ given d → referred x (view d) ≡ given tt → converts (view d) ≡ given tt → judgeAll image base x (view d) ≡ given n
     → ruled (tablesOf (built image base x (view d) n)) (length x) (length image) ≡ true
-built-keeps image x base n d r c j = kept-ruled image base x d n (read-keeps x d r) j c
+built-keeps image x base n d r q c j =
+    kept-ruled image base x d n (read-keeps x d r) j (read-pointed x d r) (shares image base x d (stages image base x d r q c n j)) c
 
 -- the same in so many cells
 pub load-keeps : (image : List ℕ) (base : ℕ) (x : List ℕ) (D : List (List (List ℕ))) → described image base x ≡ given D → (cells : ℕ) → room sections ≤ cells
@@ -101,7 +112,7 @@ load-keeps image base x D h cells l =
     rw (s .is-built)
     (encode-keeps (length x) (length image) cells (built image base x (view (s .records)) (s .elements))
     (built-good image base x (view (s .records)) (s .elements) (within-of (s .records) (k .good))) l
-    (built-keeps image x base (s .elements) (s .records) (s .is-read) (s .converts-are) (s .judged)))
+    (built-keeps image x base (s .elements) (s .records) (s .is-read) (s .refers) (s .converts-are) (s .judged)))
 
 -- what a load that was accepted leaves in the lent tables keeps the table rule
 module _ (x image : List ℕ) (base : ℕ) (lent work : List ℕ) where

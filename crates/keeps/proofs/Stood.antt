@@ -81,10 +81,10 @@ module _ (image : List ℕ) (base : ℕ) (x : List ℕ) (v : View) where
 -- ---- what placement keeps besides
 
 module _ (g : Ground) (n : Need) (image : List ℕ) where
-  -- y has a point
-  abbrev Rowed : Answer Reached → Type 0
-  Rowed (given s) = 1 ≤ s .places .cy
-  Rowed (refused k) = Unit {0}
+  -- x and y have points where the need gives them some
+  abbrev Points : Answer Reached → Type 0
+  Points (given s) = (1 ≤ pointsOf (n .x) → 1 ≤ s .places .cx) × (1 ≤ pointsOf (n .y) → 1 ≤ s .places .cy)
+  Points (refused k) = Unit {0}
 
   abbrev Some : Answer ℕ → Type 0
   Some (given m) = 1 ≤ m
@@ -104,44 +104,44 @@ module _ (g : Ground) (n : Need) (image : List ℕ) where
   unfolding countAt
   at-some kind at most = by-test Some (inside image (g .base) at (shapeOf kind .bytes)) (λ t. in-some most _) (λ t. tt)
 
-  x-rowed : (at bytes : ℕ) (s : Reached) (c : Answer ℕ) → 1 ≤ s .places .cy → Rowed (countXAt at bytes s c)
-  x-rowed at bytes s (given m) h = h
-  x-rowed at bytes s (refused k) h = tt
+  x-points : (at bytes : ℕ) (s : Reached) (c : Answer ℕ) → Some c → Points (given s) → Points (countXAt at bytes s c)
+  x-points at bytes s (given m) o h = (λ e. o, h .1)
+  x-points at bytes s (refused k) o h = tt
 
-  y-rowed : (at bytes : ℕ) (s : Reached) (c : Answer ℕ) → Some c → Rowed (countYAt at bytes s c)
-  y-rowed at bytes s (given m) h = h
-  y-rowed at bytes s (refused k) h = tt
+  y-points : (at bytes : ℕ) (s : Reached) (c : Answer ℕ) → Some c → Points (given s) → Points (countYAt at bytes s c)
+  y-points at bytes s (given m) o h = (h .0, λ e. o)
+  y-points at bytes s (refused k) o h = tt
 
-  stand-rowed : (kind at : ℕ) (s : Reached) (r : Role) → 1 ≤ s .places .cy → Rowed (standing g n image kind at s r)
-  stand-rowed kind at s Values h = h
-  stand-rowed kind at s PointsX h = h
-  stand-rowed kind at s PointsY h = h
-  stand-rowed kind at s CountX h = x-rowed at (shapeOf kind .bytes) s (countAt image g kind at (n .x .most)) h
-  stand-rowed kind at s CountY h = y-rowed at (shapeOf kind .bytes) s (countAt image g kind at (n .y .most)) (at-some kind at (n .y .most))
+  stand-points : (kind at : ℕ) (s : Reached) (r : Role) → Points (given s) → Points (standing g n image kind at s r)
+  stand-points kind at s Values h = h
+  stand-points kind at s PointsX h = h
+  stand-points kind at s PointsY h = h
+  stand-points kind at s CountX h = x-points at (shapeOf kind .bytes) s (countAt image g kind at (n .x .most)) (at-some kind at (n .x .most)) h
+  stand-points kind at s CountY h = y-points at (shapeOf kind .bytes) s (countAt image g kind at (n .y .most)) (at-some kind at (n .y .most)) h
 
-  one-rowed : (s : Reached) (p : Part) → 1 ≤ s .places .cy → Rowed (placeOne g n image s p)
+  one-points : (s : Reached) (p : Part) → Points (given s) → Points (placeOne g n image s p)
   unfolding placeOne
-  one-rowed s p h = stand-rowed (p .entry .kind) (startOf (alignment (g .aligns) (shapeOf (p .entry .kind))) s) s (p .role) h
+  one-points s p h = stand-points (p .entry .kind) (startOf (alignment (g .aligns) (shapeOf (p .entry .kind))) s) s (p .role) h
 
-  step-rowed : (a : Answer Reached) (p : Part) → Rowed a → Rowed (step g n image a p)
-  step-rowed (given s) p h = by-test Rowed (p .entry .present) (λ t. one-rowed s p h) (λ t. h)
-  step-rowed (refused k) p h = tt
+  step-points : (a : Answer Reached) (p : Part) → Points a → Points (step g n image a p)
+  step-points (given s) p h = by-test Points (p .entry .present) (λ t. one-points s p h) (λ t. h)
+  step-points (refused k) p h = tt
 
-  all-rowed : (ps : List Part) (a : Answer Reached) → Rowed a → Rowed (allPlaced g n image a ps)
+  all-points : (ps : List Part) (a : Answer Reached) → Points a → Points (allPlaced g n image a ps)
   unfolding allPlaced
-  all-rowed [] a h = h
-  all-rowed (p ∷ ps) a h = all-rowed ps (step g n image a p) (step-rowed a p h)
+  all-points [] a h = h
+  all-points (p ∷ ps) a h = all-points ps (step g n image a p) (step-points a p h)
 
-  start-rowed : n .y ≡ noAxis → Rowed (given (start g n))
-  unfolding start pointsOf
-  start-rowed e = rw e (omega arith)
+  start-points : Points (given (start g n))
+  unfolding start
+  start-points = (λ e. e, λ e. e)
 
   module _ (l : Layout) where
-    placed-rowed : n .y ≡ noAxis → Rowed (placement g n image l)
+    placed-points : Points (placement g n image l)
     unfolding placement
-    placed-rowed e =
-        by-test Rowed (sound n l)
-        (λ t. by-test Rowed (within (n .x) && within (n .y)) (λ s. all-rowed (inOrder (parts l)) (given (start g n)) (start-rowed e)) (λ s. tt))
+    placed-points =
+        by-test Points (sound n l)
+        (λ t. by-test Points (within (n .x) && within (n .y)) (λ s. all-points (inOrder (parts l)) (given (start g n)) start-points) (λ s. tt))
         (λ t. tt)
 
     -- a placement that was reached has a sound layout
@@ -157,6 +157,11 @@ module _ (g : Ground) (n : Need) (image : List ℕ) where
     unfolding placement
     placed-sounds = by-test Sounds (sound n l) (λ t. all-given t (cond (within (n .x) && within (n .y)) (allPlaced g n image (given (start g n)) (inOrder (parts l))) (refused 13))) (λ t. tt)
 
+-- where there is no axis there is one point
+pub one-point : (a : Axis) → a ≡ noAxis → 1 ≤ pointsOf a
+unfolding pointsOf
+one-point a e = rw e (omega arith)
+
 -- ---- each object
 
 pub record Stood (image : List ℕ) (base : ℕ) (x : List ℕ) (v : View) (i : ℕ) : Type 0 where
@@ -165,7 +170,8 @@ pub record Stood (image : List ℕ) (base : ℕ) (x : List ℕ) (v : View) (i : 
   pub held : Held (groundOf x v base i) (needOf image base x v i) image (layoutOf x v i) (layoutOf x v i .nx .present) (layoutOf x v i .ny .present) (placesOf image base x v i)
   pub bytes-in : allInside image base (needOf image base x v i) (layoutOf x v i) (placesOf image base x v i) ≡ true
   pub few : elementsOf image base x v i ≤ 4096
-  pub rowed : needOf image base x v i .y ≡ noAxis → 1 ≤ placesOf image base x v i .cy
+  pub some-x : 1 ≤ pointsOf (needOf image base x v i .x) → 1 ≤ placesOf image base x v i .cx
+  pub some-y : 1 ≤ pointsOf (needOf image base x v i .y) → 1 ≤ placesOf image base x v i .cy
 
 module _ (image : List ℕ) (base : ℕ) (x : List ℕ) (v : View) (i used : ℕ) (s : Standing) (h : Share image base x v i used s) where
   places-are : placesOf image base x v i ≡ h .reached .places
@@ -186,5 +192,6 @@ module _ (image : List ℕ) (base : ℕ) (x : List ℕ) (v : View) (i used : ℕ
         held = rw places-are (subst (HeldIn (groundOf x v base i) n image l (l .nx .present) (l .ny .present)) (h .placed) (placement-holds (groundOf x v base i) n image l));
         bytes-in = h .inside;
         few = omega (arith, h .total, h .most);
-        rowed = λ e. rw places-are (subst (Rowed (groundOf x v base i) n image) (h .placed) (placed-rowed (groundOf x v base i) n image l e));
+        some-x = λ e. rw places-are (subst (Points (groundOf x v base i) n image) (h .placed) (placed-points (groundOf x v base i) n image l) .0 e);
+        some-y = λ e. rw places-are (subst (Points (groundOf x v base i) n image) (h .placed) (placed-points (groundOf x v base i) n image l) .1 e);
       }

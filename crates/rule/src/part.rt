@@ -46,7 +46,7 @@ fn is_none(t: &[u64], g: u16) -> bool
     has_zeros(t, GROUP, g, 0, WIDTH)
 }
 
-// Whether a part has not too many points, and as much room.
+// Whether a part has points, not too many, and as much room.
 fn keeps_points(t: &[u64], g: u16) -> bool
     ensures { λ r. ⌜ r ≡ pointsRule (tablesIn (now (t .entry))) g ⌝ }
 {
@@ -54,7 +54,7 @@ fn keeps_points(t: &[u64], g: u16) -> bool
     let y = y_of(t, g);
     let wide = wide_of(t, g);
     let high = high_of(t, g);
-    (x <= MOST_POINTS) & (y <= MOST_POINTS) & (wide == x) & (high == y)
+    (1 <= x) & (x <= MOST_POINTS) & (1 <= y) & (y <= MOST_POINTS) & (wide == x) & (high == y)
 }
 
 // Whether an axis's stored count is inside the image, or there is none.

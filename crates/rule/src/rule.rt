@@ -2,9 +2,8 @@
 use crate::conversion::keeps_entry;
 use crate::conversion::keeps_method;
 use crate::conversion::keeps_table;
+use crate::object::keeps_object;
 use crate::part::keeps_group;
-use crate::test::is_object;
-use crate::test::is_text;
 use crate::unused::keeps_form;
 use tables::form::ENTRY;
 use tables::form::GROUP;
@@ -25,17 +24,6 @@ ghost use Rattle.tables.specs.Rule.{allBelow, objectRule, groupRule, methodRule
 
 // "4,096 elements in all objects"
 const MOST_ELEMENTS: u64 = 4096;
-
-// Whether object i has its name inside the description and is what an object can be.
-fn keeps_object(t: &[u64], n: usize, i: u16) -> bool
-    ensures { λ r. ⌜ r ≡ objectRule (tablesIn (now (t .entry))) n i ⌝ }
-{
-    let first = slot_of(t, OBJECT, i, 0);
-    let past = slot_of(t, OBJECT, i, 1);
-    let kind = slot_of(t, OBJECT, i, 2);
-    let text = is_text(n, first, past);
-    text & is_object(kind)
-}
 
 // Whether every object keeps the rule.
 fn keep_objects(t: &[u64], n: usize) -> bool

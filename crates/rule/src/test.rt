@@ -2,32 +2,33 @@
 ghost use mathlib.Core.Path.{_≡_};
 ghost use Prim.Native.Nat.{_+_};
 ghost use lib.Dec.{leb};
-ghost use Rattle.tables.specs.Rule.{isObject, isFraction, isType, textRule, insideRule};
+ghost use Rattle.tables.specs.Rule.{isFraction, isType, textRule, insideRule};
 
-// The words' codes: AXIS_PTS, MEASUREMENT, VALUE to MAP, IDENTICAL to RAT_FUNC.
-const AXIS_PTS: u64 = 7;
+// The words' codes: what an object is, and conversions.
+pub const AXIS_PTS: u64 = 7;
 
-const MEASUREMENT: u64 = 10;
+pub const MEASUREMENT: u64 = 10;
 
-const VALUE: u64 = 15;
+pub const VALUE: u64 = 15;
 
-const MAP: u64 = 18;
+pub const VAL_BLK: u64 = 16;
 
-const IDENTICAL: u64 = 19;
+pub const CURVE: u64 = 17;
 
-const RAT_FUNC: u64 = 21;
+pub const MAP: u64 = 18;
+
+pub const IDENTICAL: u64 = 19;
+
+pub const LINEAR: u64 = 20;
+
+pub const RAT_FUNC: u64 = 21;
+
+pub const TAB_VERB: u64 = 22;
 
 // The first and the last data type.
 const UBYTE: u64 = 1;
 
 const SLONG: u64 = 6;
-
-// Whether a code is an object's.
-pub fn is_object(k: u64) -> bool
-    ensures { λ r. ⌜ r ≡ isObject k ⌝ }
-{
-    (k == AXIS_PTS) | (k == MEASUREMENT) | ((VALUE <= k) & (k <= MAP))
-}
 
 // Whether a code is that of a conversion with coefficients.
 pub fn is_fraction(k: u64) -> bool

@@ -1,14 +1,15 @@
 -- What holds below a number, and sums below it.
 --     all-at, all-of      from all to each, and back
 --     all-more, all-fails     one more, and one that fails
+--     any-at      from one to any
 use Prim.Native.Nat.{ℕ, zero, suc, _+_, _*_, _≤_, _<_}
 use mathlib.Core.Path.{_≡_, refl}
-use mathlib.Core.Bool.{Bool, true, false, _&&_, and-false, false≢true}
+use mathlib.Core.Bool.{Bool, true, false, _&&_, _||_, and-false, or-true, false≢true}
 use native.Mathlib.Omega.{arith}
 use native.Mathlib.Numerals.{add-one}
 use borrow.Author.Tests.{eqb-true, eqb-false}
 use lib.Dec.{eqb}
-use Rattle.tables.specs.Rule.{allBelow}
+use Rattle.tables.specs.Rule.{allBelow, anyBelow}
 use Rattle.tables.specs.Group.{sumBelow}
 
 -- ---- two tests
@@ -71,6 +72,18 @@ pub all-of : (n : ℕ) (f : ℕ → Bool) → ((i : ℕ) → i < n → f i ≡ t
 unfolding allBelow
 all-of zero f h = refl
 all-of (suc n) f h = both (allBelow n f) (f n) (all-of n f (λ i l. h i (omega arith))) (h n (omega arith))
+
+-- ---- any below
+
+pub any-at : (n : ℕ) (f : ℕ → Bool) (i : ℕ) → i < n → f i ≡ true → anyBelow n f ≡ true
+unfolding anyBelow
+any-at zero f i h p = absurd (omega arith)
+any-at (suc n) f i h p = by-place (eqb i n) refl (λ l. any-at n f i l p) where
+  by-place : (t : Bool) → eqb i n ≡ t → (i < n → anyBelow n f ≡ true) → (anyBelow n f || f n) ≡ true
+  by-place true t ih = rw (← eqb-true i n t, p, or-true)
+  by-place false t ih =
+      let d : i ≡ n → ⊥ = eqb-false i n t in
+      rw (ih (omega (arith, d)))
 
 -- ---- sums below
 

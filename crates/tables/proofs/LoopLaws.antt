@@ -14,7 +14,7 @@ use lib.ListN.{length, getD, List·getD-eq-default}
 use Rattle.records.specs.Cells.{sectionIn, countIn, slotIn}
 use Rattle.records.specs.declared.Section.{Section}
 use Rattle.records.proofs.OpLaws.{product}
-use Rattle.tables.specs.Form.{sections, Tables, tablesIn}
+use Rattle.tables.specs.Form.{sections, object, Tables, tablesIn}
 use Rattle.tables.specs.Group.{sumBelow, elements}
 use Rattle.tables.specs.Rule.{allBelow, countFits, unusedZero, formRule, ruled, keepsRule}
 use Rattle.tables.proofs.All.{all-none, all-more, all-fails, sum-none, sum-more, sum-most}
@@ -32,6 +32,13 @@ module _ (f : ℕ → Bool) where
   all-done n i c p h l q = let e : n ≡ i = omega arith in rw e (sym q)
 
 pub ruleset turns = (all-none, all-on, all-stop, all-done, needs)
+
+-- "512 objects"
+pub object-few : (t : List ℕ) (c i : ℕ) → c ≡ countIn t (sectionIn sections object) → i < c → i < 512
+unfolding countIn sections
+object-few t c i p h = omega arith
+
+pub ruleset object-turns = (all-none, all-on, all-stop, all-done, object-few, needs)
 
 -- ---- numbers of a record that are zero
 

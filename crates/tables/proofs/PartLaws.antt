@@ -17,10 +17,10 @@ use Rattle.convert.specs.Method.{sound}
 use Rattle.convert.specs.declared.method.Coefficients.{Coefficients}
 use Rattle.tables.specs.Form.{head, object, group, method, table, entry, Tables, total, kind, place, x, y, wide, high, walk, methodOf, mask, counter, counterPlace, limit, coefficients}
 use Rattle.tables.specs.Group.{sumBelow, elements, bytes}
-use Rattle.tables.specs.Rule.{allBelow, isObject, isFraction, isType, textRule, insideRule, objectRule, noPart, pointsRule, counterRule, axisRule, valuesRule, limitsRule, bytesRule, roleRule, partRule, groupRule, verbalRule, signsRule, fractionRule, methodRule, tableRule, entryRule, headRule, ruled}
+use Rattle.tables.specs.Rule.{allBelow, isFraction, isType, textRule, insideRule, wordRule, partsRule, objectRule, noPart, pointsRule, counterRule, axisRule, valuesRule, limitsRule, bytesRule, roleRule, partRule, groupRule, verbalRule, signsRule, fractionRule, methodRule, tableRule, entryRule, headRule, ruled}
 
 module _ (T : Tables) where
-  pub object-is : (n i a b k : ℕ) (r s : Bool) → a ≡ T .slots object i 0 → b ≡ T .slots object i 1 → k ≡ T .slots object i 2 → r ≡ textRule n a b → s ≡ isObject k
+  pub object-is : (n i a b k : ℕ) (r s : Bool) → a ≡ T .slots object i 0 → b ≡ T .slots object i 1 → k ≡ T .slots object i 2 → r ≡ textRule n a b → s ≡ partsRule T i k
       → (r && s) ≡ objectRule T n i
   unfolding objectRule
   object-is n i a b k r s p q e u v = rw (u, v, p, q, e)
@@ -31,7 +31,7 @@ module _ (T : Tables) where
     none-is r p = rw p (simp add-zero)
 
     pub points-are : (a b c d : ℕ) → a ≡ x T g → b ≡ y T g → c ≡ wide T g → d ≡ high T g
-        → (leb a 4096 && leb b 4096 && eqb c a && eqb d b) ≡ pointsRule T g
+        → (leb 1 a && leb a 4096 && leb 1 b && leb b 4096 && eqb c a && eqb d b) ≡ pointsRule T g
     unfolding pointsRule
     points-are a b c d p q r s = rw (p, q, r, s)
 
@@ -92,10 +92,10 @@ module _ (T : Tables) where
     unfolding signsRule
     signs-are b c e f p q r s = rw (p, q, r, s)
 
-    pub fraction-is : (k a : ℕ) (z s u : Bool) (c : Coefficients) → k ≡ T .slots method i 0 → z ≡ isFraction k → s ≡ signsRule T i → c ≡ coefficients T i → u ≡ sound c
-        → a ≡ T .slots method i 9 → (z && s && u && eqb a 0) ≡ fractionRule T i
+    pub fraction-is : (k a : ℕ) (z s u w : Bool) (c : Coefficients) → k ≡ T .slots method i 0 → z ≡ isFraction k → s ≡ signsRule T i → c ≡ coefficients T i → u ≡ sound c
+        → w ≡ wordRule k c → a ≡ T .slots method i 9 → (z && s && u && w && eqb a 0) ≡ fractionRule T i
     unfolding fractionRule
-    fraction-is k a z s u c e1 e2 e3 e4 e5 e6 = rw (e2, e1, e3, e5, e4, e6)
+    fraction-is k a z s u w c e1 e2 e3 e4 e5 e6 e7 = rw (e2, e6, e1, e3, e5, e4, e7)
 
     pub method-verbal : (k : ℕ) (r : Bool) → k ≡ T .slots method i 0 → k ≡ 22 → r ≡ verbalRule T i → r ≡ methodRule T i
     unfolding methodRule

@@ -2,6 +2,7 @@
 --     element-inside, counter-inside     every element's bytes and every stored count are inside the image
 --     name-inside, entry-inside, default-inside     text places are inside the description
 --     method-below, verbal-below, entries-below     references are below their counts
+--     measurement-forbidden     a MEASUREMENT is marked as not to be written
 --     total-is, total-most      the head says how many elements there are, at most 4,096
 use Prim.Native.Nat.{ℕ, suc, _+_, _-_, _*_, _%_, _≤_, _<_}
 use mathlib.Core.Path.{_≡_, refl}
@@ -13,9 +14,10 @@ use borrow.Author.Tests.{eqb-true, leb-true, ne-eqb, eq-eqb}
 use lib.Dec.{eqb, leb, ltb}
 use Rattle.cell.specs.Kind.{shapeOf}
 use Rattle.cell.specs.Mask.{maskRule}
-use Rattle.tables.specs.Form.{head, object, group, method, table, entry, Tables, tablesIn, total, kind, place, x, y, wide, high, walk, methodOf, mask, counter, counterPlace}
-use Rattle.tables.specs.Group.{sumBelow, position, elements, bytes, placeOf}
-use Rattle.tables.specs.Rule.{allBelow, isObject, isType, textRule, insideRule, objectRule, noPart, pointsRule, counterRule, axisRule, valuesRule, limitsRule, bytesRule, roleRule, partRule, groupRule, verbalRule, methodRule, tableRule, entryRule, headRule, ruled, formRule, keepsRule}
+use Rattle.rows.specs.Codes.{MEASUREMENT}
+use Rattle.tables.specs.Form.{head, object, group, method, table, entry, Tables, tablesIn, total, kind, place, x, y, wide, high, walk, methodOf, mask, forbidden, counter, counterPlace}
+use Rattle.tables.specs.Group.{groupOf, sumBelow, position, elements, bytes, placeOf}
+use Rattle.tables.specs.Rule.{allBelow, isType, textRule, insideRule, valueRule, measurementRule, partsRule, objectRule, noPart, pointsRule, counterRule, axisRule, valuesRule, limitsRule, bytesRule, roleRule, partRule, groupRule, verbalRule, methodRule, tableRule, entryRule, headRule, ruled, formRule, keepsRule}
 use Rattle.tables.proofs.All.{left, right, three, five, six, all-at}
 use Rattle.tables.proofs.Addressing.{position-below}
 
@@ -51,7 +53,7 @@ module _ (T : Tables) (g m : ℕ) where
   part-facts h =
       let u = three (isType (kind T g) && leb (T .slots group g 1) 1 && pointsRule T g && bytesRule T g m && roleRule T g m && leb (methodOf T g) (T .counts method)) (leb (T .slots group g 10) 1) (limitsRule T g) h in
       let v = six (isType (kind T g)) (leb (T .slots group g 1) 1) (pointsRule T g) (bytesRule T g m) (roleRule T g m) (leb (methodOf T g) (T .counts method)) (u .0) in
-      let p = three (leb (x T g) 4096 && leb (y T g) 4096) (eqb (wide T g) (x T g)) (eqb (high T g) (y T g)) (v .2) in
+      let p = three (leb 1 (x T g) && leb (x T g) 4096 && leb 1 (y T g) && leb (y T g) 4096) (eqb (wide T g) (x T g)) (eqb (high T g) (y T g)) (v .2) in
       record {
         same-wide = eqb-true (wide T g) (x T g) (p .1);
         same-high = eqb-true (high T g) (y T g) (p .2);
@@ -133,7 +135,14 @@ head-facts T h =
 -- what one record says
 object-facts : (T : Tables) (n i : ℕ) → objectRule T n i ≡ true → (T .slots object i 0 ≤ T .slots object i 1) × (T .slots object i 1 ≤ n)
 unfolding objectRule
-object-facts T n i h = text-facts n (T .slots object i 0) (T .slots object i 1) (left (textRule n (T .slots object i 0) (T .slots object i 1)) (isObject (T .slots object i 2)) h)
+object-facts T n i h = text-facts n (T .slots object i 0) (T .slots object i 1) (left (textRule n (T .slots object i 0) (T .slots object i 1)) (partsRule T i (T .slots object i 2)) h)
+
+measurement-facts : (T : Tables) (n i : ℕ) → objectRule T n i ≡ true → T .slots object i 2 ≡ MEASUREMENT → T .slots group (groupOf i 2) 10 ≡ 1
+unfolding objectRule partsRule measurementRule
+measurement-facts T n i h e =
+    let p : partsRule T i (T .slots object i 2) ≡ true = right (textRule n (T .slots object i 0) (T .slots object i 1)) (partsRule T i (T .slots object i 2)) h in
+    let q : measurementRule T i ≡ true = rw e at p in
+    eqb-true (T .slots group (groupOf i 2) 10) 1 (right (valueRule T i) (eqb (T .slots group (groupOf i 2) 10) 1) q)
 
 entry-facts : (T : Tables) (n i : ℕ) → entryRule T n i ≡ true → (T .slots entry i 2 ≤ T .slots entry i 3) × (T .slots entry i 3 ≤ n)
 unfolding entryRule
@@ -192,6 +201,12 @@ module _ (n m : ℕ) (t : List ℕ) (h : keepsRule n m t ≡ true) where
 
   pub entries-below : (i : ℕ) → i < tablesIn t .counts table → tablesIn t .slots table i 0 + tablesIn t .slots table i 1 ≤ tablesIn t .counts entry
   entries-below i l = of-table i l .0
+
+  -- "MEASUREMENT or READ_ONLY" (21): of a MEASUREMENT the mark is there
+  pub measurement-forbidden : (i : ℕ) → i < tablesIn t .counts object → tablesIn t .slots object i 2 ≡ MEASUREMENT → forbidden (tablesIn t) (groupOf i 2) ≡ true
+  measurement-forbidden i l e =
+      let o : objectRule (tablesIn t) n i ≡ true = all-at (tablesIn t .counts object) (objectRule (tablesIn t) n) (rule-facts n m t h .of-objects) i l in
+      rw (measurement-facts (tablesIn t) n i o e)
 
   -- "4,096 elements in all objects"
   pub total-is : total (tablesIn t) ≡ sumBelow (tablesIn t .counts group) (elements (tablesIn t))

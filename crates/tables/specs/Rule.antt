@@ -1,38 +1,44 @@
 -- "Table rule: every reference below its table's count, counts within capacity, each element's bytes and each stored count inside the image,
 -- conversions and masks as above, limits in order, text places inside the description, no unused field other than zero."
 -- n is the length of the description, m that of the image.
-use Prim.Native.Nat.{ℕ, zero, suc, _+_, _*_, _-_, _%_}
+use Prim.Native.Nat.{ℕ, zero, suc, _+_, _*_, _-_, _%_, _^_}
 use mathlib.Core.List.{List}
-use mathlib.Core.Bool.{Bool, true, cond, _&&_, _||_}
+use mathlib.Core.Bool.{Bool, true, false, cond, not, _&&_, _||_}
 use lib.Dec.{eqb, ltb, leb}
+use lib.IntN.{pos}
 use lib.ListN.{length, getD}
-use Rattle.cell.specs.Kind.{shapeOf}
+use Rattle.cell.specs.Kind.{UBYTE, SLONG, shapeOf}
 use Rattle.cell.specs.Mask.{maskRule}
 use Rattle.convert.specs.Limit.{atMost}
-use Rattle.convert.specs.Method.{sound}
+use Rattle.convert.specs.Method.{sound, identicalOf}
+use Rattle.convert.specs.Whole.{eqZ}
+use Rattle.convert.specs.declared.method.Coefficients.{Coefficients}
 use Rattle.records.specs.Records.{widthOf, mostOf}
 use Rattle.records.specs.Cells.{baseIn, sectionIn, countIn}
+use Rattle.rows.specs.Codes.{AXIS-PTS, MEASUREMENT, VALUE, VAL-BLK, CURVE, MAP, IDENTICAL, LINEAR, RAT-FUNC, TAB-VERB}
 use Rattle.tables.specs.Form.{sections, head, object, group, method, table, entry, Tables, tablesIn, total, kind, place, x, y, wide, high, walk, methodOf, mask, counter, counterPlace, limit, coefficients}
-use Rattle.tables.specs.Group.{sumBelow, elements, bytes}
+use Rattle.tables.specs.Group.{groupOf, sumBelow, elements, bytes}
 
 -- f holds below n
 unfoldable pub allBelow : ℕ → (ℕ → Bool) → Bool
 allBelow zero f = true
 allBelow (suc n) f = allBelow n f && f n
 
--- the words' codes: AXIS_PTS, MEASUREMENT; VALUE to MAP; IDENTICAL to RAT_FUNC; TAB_VERB
-abbrev pub isObject : ℕ → Bool
-isObject k = eqb k 7 || eqb k 10 || leb 15 k && leb k 18
+-- f holds somewhere below n
+unfoldable pub anyBelow : ℕ → (ℕ → Bool) → Bool
+anyBelow zero f = false
+anyBelow (suc n) f = anyBelow n f || f n
 
+-- the conversions that have coefficients, and the one that has a verbal table
 abbrev pub isFraction : ℕ → Bool
-isFraction k = leb 19 k && leb k 21
+isFraction k = leb IDENTICAL k && leb k RAT-FUNC
 
 abbrev pub isVerbal : ℕ → Bool
-isVerbal k = eqb k 22
+isVerbal k = eqb k TAB-VERB
 
 -- "Data types: UBYTE, SBYTE, UWORD, SWORD, ULONG, SLONG."
 unfoldable pub isType : ℕ → Bool
-isType k = leb 1 k && leb k 6
+isType k = leb UBYTE k && leb k SLONG
 
 -- "text places inside the description"
 unfoldable pub textRule : ℕ → ℕ → ℕ → Bool
@@ -42,18 +48,81 @@ textRule n from past = leb from past && leb past n
 unfoldable pub insideRule : ℕ → ℕ → ℕ → Bool
 insideRule m at many = leb (at + many) m
 
+-- "IDENTICAL and NO_COMPU_METHOD are 1, 0, 0, 1."
+unfoldable pub identicalRule : Coefficients → Bool
+identicalRule k = eqZ (k .b) (identicalOf .b) && eqZ (k .c) (identicalOf .c) && eqZ (k .e) (identicalOf .e) && eqZ (k .f) (identicalOf .f)
+
+-- "LINEAR .. has b, c, e, f of 10^t, −B, 0, A": a decimal has at most 6 digits after the point
+unfoldable pub linearRule : Coefficients → Bool
+linearRule k = anyBelow 7 (λ t. eqZ (k .b) (pos (10 ^ t))) && eqZ (k .e) (pos 0)
+
+-- the coefficients that a conversion's word asks for; RAT_FUNC has any
+unfoldable pub wordRule : ℕ → Coefficients → Bool
+wordRule conversion k = cond (eqb conversion IDENTICAL) (identicalRule k) (cond (eqb conversion LINEAR) (linearRule k) true)
+
 module _ (T : Tables) where
+  -- an object's parts, as what it is asks: those that it has no use for are not there, and those that it needs are
+  module _ (i : ℕ) where
+    -- the object stores its x points, its y points, its values
+    abbrev pub storesX : Bool
+    storesX = not (eqb (kind T (groupOf i 0)) 0)
+
+    abbrev pub storesY : Bool
+    storesY = not (eqb (kind T (groupOf i 1)) 0)
+
+    abbrev pub storesValues : Bool
+    storesValues = not (eqb (kind T (groupOf i 2)) 0)
+
+    -- values in one row
+    abbrev pub oneRow : Bool
+    oneRow = eqb (y T (groupOf i 2)) 1
+
+    -- an AXIS_PTS has x points alone
+    unfoldable pub axisPtsRule : Bool
+    axisPtsRule = storesX && not storesY && not storesValues
+
+    -- a VAL_BLK has values alone, in one row
+    unfoldable pub blockRule : Bool
+    blockRule = not storesX && not storesY && storesValues && oneRow
+
+    -- a VALUE has one element
+    unfoldable pub valueRule : Bool
+    valueRule = blockRule && eqb (x T (groupOf i 2)) 1
+
+    -- so has a MEASUREMENT, and it is marked as not to be written: "MEASUREMENT or READ_ONLY" (21)
+    unfoldable pub measurementRule : Bool
+    measurementRule = valueRule && eqb (T .slots group (groupOf i 2) 10) 1
+
+    -- a CURVE has values in one row, and x points where it stores them
+    unfoldable pub curveRule : Bool
+    curveRule = not storesY && storesValues && oneRow
+
+    -- a MAP has values, and the points that it stores
+    unfoldable pub mapRule : Bool
+    mapRule = storesValues
+
+    unfoldable pub partsRule : ℕ → Bool
+    partsRule what =
+        cond (eqb what AXIS-PTS) axisPtsRule
+        (cond (eqb what MEASUREMENT) measurementRule
+        (cond (eqb what VALUE) valueRule
+        (cond (eqb what VAL-BLK) blockRule
+        (cond (eqb what CURVE) curveRule
+        (cond (eqb what MAP) mapRule false)))))
+
   unfoldable pub objectRule : ℕ → ℕ → Bool
-  objectRule n i = textRule n (T .slots object i 0) (T .slots object i 1) && isObject (T .slots object i 2)
+  objectRule n i = textRule n (T .slots object i 0) (T .slots object i 1) && partsRule i (T .slots object i 2)
 
   module _ (g : ℕ) where
     -- a part that the object does not store: "no unused field other than zero"
     unfoldable pub noPart : Bool
     noPart = allBelow 19 (λ k. eqb (T .slots group g k) 0)
 
-    -- points and room are equal: parts are packed
+    -- a part that is stored has points; points and room are equal: parts are packed
     unfoldable pub pointsRule : Bool
-    pointsRule = leb (x T g) 4096 && leb (y T g) 4096 && eqb (wide T g) (x T g) && eqb (high T g) (y T g)
+    pointsRule =
+        leb 1 (x T g) && leb (x T g) 4096 && leb 1 (y T g) && leb (y T g) 4096
+        && eqb (wide T g) (x T g) && eqb (high T g) (y T g)
 
     -- "each stored count inside the image"; where there is none, both numbers are zero
     unfoldable pub counterRule : ℕ → Bool
@@ -97,7 +166,9 @@ module _ (T : Tables) where
   signsRule i = leb (T .slots method i 1) 1 && leb (T .slots method i 3) 1 && leb (T .slots method i 5) 1 && leb (T .slots method i 7) 1
 
   unfoldable pub fractionRule : ℕ → Bool
-  fractionRule i = isFraction (T .slots method i 0) && signsRule i && sound (coefficients T i) && eqb (T .slots method i 9) 0
+  fractionRule i =
+      isFraction (T .slots method i 0) && signsRule i && sound (coefficients T i)
+      && wordRule (T .slots method i 0) (coefficients T i) && eqb (T .slots method i 9) 0
 
   unfoldable pub methodRule : ℕ → Bool
   methodRule i = cond (isVerbal (T .slots method i 0)) (verbalRule i) (fractionRule i)

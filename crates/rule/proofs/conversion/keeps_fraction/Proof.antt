@@ -12,4 +12,5 @@ keeps-fraction-spec =
     (λ c κs. search records)
     (λ c κs. search records)
     (λ c κs. search records)
+    (λ c κs. search records)
     (λ c. search records))

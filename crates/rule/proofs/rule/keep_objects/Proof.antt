@@ -5,7 +5,7 @@ use mathlib.Core.Path.{_≡_}
 use mathlib.Core.Bool.{true}
 use Rattle.tables.specs.Form.{tablesIn}
 use Rattle.tables.specs.Rule.{allBelow, objectRule}
-use Rattle.tables.proofs.LoopLaws.{turns}
+use Rattle.tables.proofs.LoopLaws.{object-turns}
 
 abbrev Inv-loop : tie.InvT-loop
 Inv-loop t n count i₀ i = (i ≤ count) × (allBelow i (objectRule (tablesIn t) n) ≡ true)
@@ -19,11 +19,11 @@ keep-objects-spec =
     (tie.spec
     Inv-loop
     μ-loop
-    (λ c κs. search turns)
-    (λ c. search turns)
-    (λ c κs. search turns)
-    (λ c. search turns)
-    (λ c. search turns)
-    (λ c. search turns)
-    (λ c. search turns)
-    (λ c. search turns))
+    (λ c κs. search object-turns)
+    (λ c. search object-turns)
+    (λ c κs. search object-turns)
+    (λ c. search object-turns)
+    (λ c. search object-turns)
+    (λ c. search object-turns)
+    (λ c. search object-turns)
+    (λ c. search object-turns))

@@ -5,7 +5,7 @@ pub mod Methods
 pub mod Floats
 pub mod Rounds
 pub mod Showns
-pub mod Askeds
+pub mod AskedLaws
 pub mod Verbals
 pub mod Ring
 pub mod Laws

@@ -49,8 +49,8 @@ nearest-pos (pos n) (pos d) h = rw (le-ltb d 0 zero-le)
 nearest-pos (pos n) (negsuc d) h = refl
 nearest-pos (negsuc n) d h = clash h
 
-pub quotient-none : (n d : ℤ) → d ≡ pos 0 → refused 17 ≡ roundedQuotient away n d
-quotient-none n d e = rw e
+pub quotient-none : (up : Halves) (n d : ℤ) → d ≡ pos 0 → refused 17 ≡ roundedQuotient up n d
+quotient-none up n d e = rw e
 
 pub quotient-is : (up : Halves) (n d : ℤ) → (d ≡ pos 0 → ⊥) → given (nearest up n d) ≡ roundedQuotient up n d
 quotient-is up n (pos zero) z = absurd (z refl)

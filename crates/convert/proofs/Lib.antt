@@ -4,6 +4,7 @@ pub mod Limits
 pub mod Methods
 pub mod Floats
 pub mod Rounds
+pub mod RoundLaws
 pub mod Showns
 pub mod AskedLaws
 pub mod Verbals

@@ -1,26 +1,26 @@
 -- THE LAWS of the conversions, about the definitions that the contracts name.
 use mathlib.Core.Path.{_≡_, refl, sym, ap, ap₂, subst, _∙_}
-use mathlib.Core.Bool.{Bool, true, false}
+use mathlib.Core.Bool.{Bool, true, false, cond}
 use mathlib.Core.List.{List}
 use Prim.Native.Nat.{ℕ, zero, suc, _+_, _*_, _-_, _%_, _^_, _≤_, _<_}
 use native.Mathlib.Nat.{mul-assoc, eq-of-mul-eq-mul-right, mul-mod-left, pow-suc, pow-le-pow-right}
 use native.Mathlib.Omega.{arith}
 use borrow.Author.Tests.{lt-ltb, leb-true, leb-false, eq-eqb}
-use lib.Dec.{leb, lit<}
+use lib.Dec.{leb, lit<, lit≤}
 use lib.IntN.{ℤ, pos, negsuc, negℤ, natAbs, _+ℤ_, _-ℤ_, _*ℤ_, negℤ-negℤ, negℤ-+ℤ}
 use lib.Pow.{pow-add}
 use Rattle.number.specs.Answer.{Answer, given, refused}
-use Rattle.number.specs.Decimal.{Scaled}
+use Rattle.number.specs.Decimal.{Scaled, decimalOf}
 use Rattle.cell.specs.declared.kind.Shape.{Shape}
 use Rattle.cell.specs.Raw.{fitsRaw}
 use Rattle.cell.proofs.Types.{clash}
 use Rattle.convert.specs.declared.method.Coefficients.{Coefficients}
-use Rattle.convert.specs.Whole.{eqZ, allSmall}
+use Rattle.convert.specs.Whole.{signedOf, eqZ, allSmall}
 use Rattle.convert.specs.Limit.{withinLimits}
 use Rattle.convert.specs.Method.{sameProducts}
 use Rattle.convert.specs.Fraction.{number, turned, fraction, fractionOf}
 use Rattle.convert.specs.Round.{Halves, away, nearest, roundedQuotient, rawFor}
-use Rattle.convert.specs.Asked.{andThen, orRefused, askedOf, nearestRaw, fittingRaw, askedRaw}
+use Rattle.convert.specs.Asked.{andThen, orRefused, asDecimal, askedOf, nearestRaw, fittingRaw, askedRaw}
 use Rattle.convert.proofs.Rounds.{within-half, met, quotient-is}
 use Rattle.convert.proofs.Ring.{mul-neg, equal, N, D, Δ, over-is, under-is}
 
@@ -165,3 +165,48 @@ asked-stores lower upper k t mask s z h =
       near = ap (nearestRaw away k) (w .1) ∙ c .1 ∙ ap given (f .1);
       fits = ap (fitsRaw t mask) (sym (f .1)) ∙ f .0;
     }
+
+-- ---- a physical write's refusal is 15, 16, 17 or 18
+-- an answer that refuses by these numbers alone
+abbrev pub Numbered : {A : Type 0} → Answer A → Type 0
+Numbered a = (n : ℕ) → a ≡ refused n → (15 ≤ n) × (n ≤ 18)
+
+numbered-given : {A : Type 0} (x : A) → Numbered (given x)
+numbered-given x n h = let y : _≡_ {A = ℕ} 0 1 = cc in absurd (omega arith)
+
+numbered-refused : {A : Type 0} (k : ℕ) → 15 ≤ k → k ≤ 18 → Numbered {A = A} (refused k)
+numbered-refused k l m n h = let e : k ≡ n = cc in (omega arith, omega arith)
+
+numbered-or : {A : Type 0} (k : ℕ) (b : Bool) (x : A) → 15 ≤ k → k ≤ 18 → Numbered (orRefused k b x)
+numbered-or k true x l m = numbered-given x
+numbered-or k false x l m = numbered-refused k l m
+
+numbered-then : {A B : Type 0} (a : Answer A) (f : A → Answer B) → Numbered a → ((x : A) → Numbered (f x)) → Numbered (andThen a f)
+numbered-then (given x) f p q = q x
+numbered-then (refused k) f p q = λ n h. p n (let e : k ≡ n = cc in ap refused e)
+
+numbered-form : (a : Answer Scaled) → Numbered (asDecimal a)
+numbered-form (given d) = numbered-or 15 (leb (d .whole) 1000000000) d (lit≤ tt) (lit≤ tt)
+numbered-form (refused k) = numbered-refused 15 (lit≤ tt) (lit≤ tt)
+
+numbered-quotient : (up : Halves) (n d : ℤ) → Numbered (roundedQuotient up n d)
+numbered-quotient up n (pos zero) = numbered-refused 17 (lit≤ tt) (lit≤ tt)
+numbered-quotient up n (pos (suc d)) = numbered-given (nearest up n (pos (suc d)))
+numbered-quotient up n (negsuc d) = numbered-given (nearest up n (negsuc d))
+
+numbered-near : (up : Halves) (k : Coefficients) (d : Scaled) → Numbered (nearestRaw up k d)
+unfolding nearestRaw rawFor
+numbered-near up k d = go (allSmall k) (signedOf (d .negative) (d .whole)) (pos (10 ^ d .tens))
+  where
+    go : (b : Bool) (p q : ℤ) → Numbered (cond b (roundedQuotient up (k .b *ℤ p +ℤ k .c *ℤ q) (k .e *ℤ p +ℤ k .f *ℤ q)) (refused 17))
+    go true p q = numbered-quotient up (k .b *ℤ p +ℤ k .c *ℤ q) (k .e *ℤ p +ℤ k .f *ℤ q)
+    go false p q = numbered-refused 17 (lit≤ tt) (lit≤ tt)
+
+-- A REFUSED PHYSICAL WRITE has one of document 01's four numbers: 15, 16, 17, 18.
+pub asked-numbers : (lower upper : Scaled) (k : Coefficients) (t : Shape) (mask : ℕ) (s : List ℕ) → Numbered (askedRaw lower upper k t mask s)
+unfolding askedRaw askedOf
+asked-numbers lower upper k t mask s =
+    numbered-then _ _ (numbered-form (decimalOf s)) (λ d.
+    numbered-then _ _ (numbered-or 16 (withinLimits lower upper d) d (lit≤ tt) (lit≤ tt)) (λ d.
+    numbered-then _ _ (numbered-near away k d) (λ z.
+    numbered-or 18 (fitsRaw t mask z) z (lit≤ tt) (lit≤ tt))))

@@ -1,6 +1,8 @@
 -- Laws that belong to no one function.
 pub mod Wholes
 pub mod Limits
+pub mod WholeLaws
+pub mod LimitLaws
 pub mod Methods
 pub mod Floats
 pub mod Rounds

@@ -1,16 +1,13 @@
--- Decimals of the form that a text can write: their bounds, what they are times a power of ten, and how two compare.
-use mathlib.Core.Path.{_≡_, sym, ap₂, _∙_}
-use mathlib.Core.Bool.{Bool, true, false, _&&_}
+-- Decimals of the form that a text can write: their bounds, and what they are times a power of ten.
+use mathlib.Core.Path.{_≡_}
+use mathlib.Core.Bool.{true}
 use Prim.Native.Nat.{ℕ, _*_, _^_, _≤_, _<_, max}
 use native.Mathlib.Nat.{pow-le-pow-right, mul-le-mul}
 use native.Mathlib.Omega.{arith}
 use borrow.Author.Tests.{leb-true}
 use lib.Dec.{leb, lit<}
-use lib.IntN.{ℤ}
-use lib.Signed.{leZ}
 use Rattle.number.specs.Decimal.{Scaled, Form}
-use Rattle.convert.specs.Whole.{signedOf}
-use Rattle.convert.specs.Limit.{formed, atMost}
+use Rattle.convert.specs.Limit.{formed}
 use Rattle.convert.proofs.Wholes.{left-true, right-true}
 
 -- the test on a decimal's form as facts
@@ -32,16 +29,3 @@ ten-product n t r h k e = let l : r ≤ 1000000 = omega (arith, ten-le t k) in o
 -- the larger of powers up to 6 is such a power
 pub larger-le : (x y t : ℕ) → t ≡ max x y → x ≤ 6 → y ≤ 6 → (x ≤ t) × (y ≤ t) × (t ≤ 6)
 larger-le x y t e h k = (omega arith, omega arith, omega arith)
-
-module _ (a b : Scaled) {x y : Bool} (ex : x ≡ formed a) (ey : y ≡ formed b) where
-  pub both-formed : (x && y) ≡ true → Form a × Form b
-  both-formed h = (formed-facts a (sym ex ∙ left-true x y h), formed-facts b (sym ey ∙ right-true x y h))
-
-  pub at-most-is : {p q : ℤ} → (x && y) ≡ true → p ≡ signedOf (a .negative) (a .whole * 10 ^ b .tens) → q ≡ signedOf (b .negative) (b .whole * 10 ^ a .tens)
-      → leZ p q ≡ atMost a b
-  unfolding atMost
-  at-most-is h ep eq = rw (sym ex ∙ left-true x y h, sym ey ∙ right-true x y h) (ap₂ leZ ep eq)
-
-  pub at-most-not : (x && y) ≡ false → false ≡ atMost a b
-  unfolding atMost
-  at-most-not h = let e : (formed a && formed b) ≡ false = ap₂ _&&_ (sym ex) (sym ey) ∙ h in rw e

@@ -6,7 +6,7 @@ use Prim.Native.Nat.{ℕ, _+_, _*_, _^_, _≤_, _<_}
 use native.Mathlib.Omega.{arith}
 use borrow.Author.Tests.{lt-leb, le-leb}
 use borrow.Author.Needs.{needs}
-use lib.IntN.{ℤ, pos, natAbs, _+ℤ_, _*ℤ_}
+use lib.IntN.{ℤ, natAbs, _+ℤ_, _*ℤ_}
 use mir.Syntax.{w64}
 use mir.Val.{SFits, toZ, ofZ}
 use Rattle.number.specs.Answer.{Answer, given, refused}
@@ -18,7 +18,7 @@ use Rattle.number.specs.declared.decimal.DecimalAnswer.the-variants as decimal
 use Rattle.number.proofs.Laws.{decimal-form}
 use Rattle.cell.specs.declared.kind.Shape.{Shape}
 use Rattle.cell.specs.Raw.{fitsRaw}
-use Rattle.cell.proofs.Signed.{Is, back, is-fits, is-back, is-read, is-mul, is-add, is-abs, is-zero, is-nonzero, is-cast-le, abs-pos}
+use Rattle.cell.proofs.Signed.{Is, back, is-fits, is-back, is-read, is-mul, is-add, is-abs, is-zero, is-nonzero, abs-pos}
 use Rattle.convert.specs.declared.method.Coefficients.{Coefficients}
 use Rattle.convert.specs.declared.asked.RawAnswer.{RawAnswer}
 use Rattle.convert.specs.declared.asked.RawAnswer.the-variants as raw
@@ -27,14 +27,11 @@ use Rattle.convert.specs.Limit.{atMost}
 use Rattle.convert.specs.Round.{Halves, away, nearest, rawFor}
 use Rattle.convert.specs.Asked.{fittingRaw, askedOf, nearestRaw, askedRaw}
 use Rattle.convert.specs.Told.{toldRaw}
-use Rattle.convert.proofs.Wholes.{abs-signed, small-facts}
-use Rattle.convert.proofs.Limits.{ten-le}
+use Rattle.convert.proofs.Wholes.{abs-signed, small-told, product-fits}
+use Rattle.convert.proofs.Limits.{ten-is, ten-fits}
 use Rattle.convert.proofs.Rounds.{quotient-none, quotient-is}
 
 -- ---- b·p + c·q, as the code works it out
-pub product-fits : (b p : ℤ) (m : ℕ) → natAbs b ≤ 1000000000 → natAbs p ≤ m → m ≤ 1000000000 → SFits w64 (back b *ℤ back p)
-product-fits b p m hb hp h = is-fits (is-mul (is-read b hb tt) (is-read p {m = 1000000000} (omega arith) tt)) tt
-
 abbrev pub worked : ℤ → ℤ → ℤ → ℤ → ℤ
 worked b p c q = back (back b *ℤ back p) +ℤ back (back c *ℤ back q)
 
@@ -71,26 +68,17 @@ module _ (up : Halves) (k : Coefficients) (p q : ℤ) (s : Small k) (hp : natAbs
       ∙ quotient-is up (k .b *ℤ p +ℤ k .c *ℤ q) (k .e *ℤ p +ℤ k .f *ℤ q) (is-nonzero under h)
 
 -- ---- a decimal's two numbers: y is what the machine reads back of z, and r is 10^t
-pub small-told : (k : Coefficients) (b : Bool) → b ≡ allSmall k → b ≡ true → Small k
-small-told k b e h = small-facts k (sym e ∙ h)
-
 pub over-size : (negative : Bool) (n : ℕ) (y z : ℤ) → z ≡ signedOf negative n → y ≡ z → n ≤ 1000000000 → natAbs y ≤ 1000000000
 over-size negative n y z e r h = omega (arith, ap natAbs (r ∙ e), abs-signed negative n)
 
-under-is : (t r : ℕ) → r ≡ 10 ^ t → t ≤ 6 → Is (toZ w64 r) (pos (10 ^ t)) 1000000
-under-is t r e h = let i = is-cast-le (10 ^ t) (ten-le t h) tt in record { same = ap (toZ w64) e ∙ i .same; size = i .size }
-
 pub under-size : (t r : ℕ) → r ≡ 10 ^ t → t ≤ 6 → natAbs (toZ w64 r) ≤ 1000000
-under-size t r e h = let i = under-is t r e h in omega (arith, is-abs i, i .size)
-
-pub ten-fits : (t r : ℕ) → r ≡ 10 ^ t → t ≤ 6 → SFits w64 (pos r)
-ten-fits t r e h = record { sfits = omega (arith, e, ten-le t h) }
+under-size t r e h = let i = ten-is t r e h in omega (arith, is-abs i, i .size)
 
 module _ (up : Halves) (k : Coefficients) (d : Scaled) (b : Bool) (e : b ≡ allSmall k) where
   pub near-is : (y z : ℤ) (r : ℕ) (a : Answer ℤ) → b ≡ true → z ≡ signedOf (d .negative) (d .whole) → y ≡ z → r ≡ 10 ^ d .tens → d .tens ≤ 6
       → a ≡ rawFor up k y (toZ w64 r) → a ≡ nearestRaw up k d
   unfolding nearestRaw
-  near-is y z r a h ez ey er t ea = ea ∙ ap₂ (rawFor up k) (ey ∙ ez) (under-is (d .tens) r er t .same) ∙ rw (sym e ∙ h)
+  near-is y z r a h ez ey er t ea = ea ∙ ap₂ (rawFor up k) (ey ∙ ez) (ten-is (d .tens) r er t .same) ∙ rw (sym e ∙ h)
 
   pub near-none : b ≡ false → refused 17 ≡ nearestRaw up k d
   unfolding nearestRaw

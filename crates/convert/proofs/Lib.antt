@@ -3,7 +3,7 @@ pub mod Wholes
 pub mod Limits
 pub mod WholeLaws
 pub mod LimitLaws
-pub mod Methods
+pub mod MethodLaws
 pub mod Floats
 pub mod Rounds
 pub mod RoundLaws

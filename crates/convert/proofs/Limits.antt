@@ -1,12 +1,16 @@
 -- Decimals of the form that a text can write: their bounds, and what they are times a power of ten.
-use mathlib.Core.Path.{_≡_}
+use mathlib.Core.Path.{_≡_, ap, _∙_}
 use mathlib.Core.Bool.{true}
-use Prim.Native.Nat.{ℕ, _*_, _^_, _≤_, _<_, max}
+use Prim.Native.Nat.{ℕ, _*_, _^_, _≤_, _<_}
 use native.Mathlib.Nat.{pow-le-pow-right, mul-le-mul}
 use native.Mathlib.Omega.{arith}
 use borrow.Author.Tests.{leb-true}
 use lib.Dec.{leb, lit<}
+use lib.IntN.{pos}
+use mir.Syntax.{w64}
+use mir.Val.{SFits, toZ}
 use Rattle.number.specs.Decimal.{Scaled, Form}
+use Rattle.cell.proofs.Signed.{Is, is-cast-le}
 use Rattle.convert.specs.Limit.{formed}
 use Rattle.convert.proofs.Wholes.{left-true, right-true}
 
@@ -26,6 +30,9 @@ ten-le t h = pow-le-pow-right (lit< tt) {j = 6} h
 pub ten-product : (n t r : ℕ) → n ≤ 9999999999 → t ≤ 6 → r ≡ 10 ^ t → n * r < 2 ^ 63
 ten-product n t r h k e = let l : r ≤ 1000000 = omega (arith, ten-le t k) in omega (arith, mul-le-mul h l)
 
--- the larger of powers up to 6 is such a power
-pub larger-le : (x y t : ℕ) → t ≡ max x y → x ≤ 6 → y ≤ 6 → (x ≤ t) × (y ≤ t) × (t ≤ 6)
-larger-le x y t e h k = (omega arith, omega arith, omega arith)
+-- r is 10^t, as the code has it
+pub ten-is : (t r : ℕ) → r ≡ 10 ^ t → t ≤ 6 → Is (toZ w64 r) (pos (10 ^ t)) 1000000
+ten-is t r e h = let i = is-cast-le (10 ^ t) (ten-le t h) tt in record { same = ap (toZ w64) e ∙ i .same; size = i .size }
+
+pub ten-fits : (t r : ℕ) → r ≡ 10 ^ t → t ≤ 6 → SFits w64 (pos r)
+ten-fits t r e h = record { sfits = omega (arith, e, ten-le t h) }

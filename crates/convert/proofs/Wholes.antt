@@ -1,15 +1,15 @@
 -- Whole numbers with a sign: what the code's tests say.
-use mathlib.Core.Path.{_≡_, refl, ap, ap₂, _∙_}
+use mathlib.Core.Path.{_≡_, refl, sym, ap, ap₂, _∙_}
 use mathlib.Core.Bool.{Bool, true, false, _&&_}
-use Prim.Native.Nat.{ℕ, suc, _-_, _<_, _^_}
+use Prim.Native.Nat.{ℕ, suc, _-_, _≤_, _<_, _^_}
 use native.Mathlib.Omega.{arith}
 use borrow.Author.Tests.{eqb-true, eqb-false, eq-eqb, ne-eqb, leb-true}
 use lib.Dec.{T, ltb, eqb}
-use lib.IntN.{ℤ, pos, negsuc, natAbs}
+use lib.IntN.{ℤ, pos, negsuc, natAbs, _*ℤ_}
 use lib.Signed.{mag}
 use mir.Syntax.{w64}
-use mir.Val.{ofZ}
-use Rattle.cell.proofs.Signed.{Is, back, is-fits, returned, abs-neg}
+use mir.Val.{SFits, ofZ}
+use Rattle.cell.proofs.Signed.{Is, back, is-fits, is-read, is-mul, returned, abs-neg}
 use Rattle.convert.specs.declared.method.Coefficients.{Coefficients}
 use Rattle.convert.specs.Whole.{signedOf, eqZ, small, allSmall, Small}
 
@@ -60,3 +60,10 @@ small-facts k h =
       e = leb-true (natAbs (k .e)) 1000000000 (right-true (small (k .b) && small (k .c)) (small (k .e)) three);
       f = leb-true (natAbs (k .f)) 1000000000 (right-true (small (k .b) && small (k .c) && small (k .e)) (small (k .f)) h);
     }
+
+pub small-told : (k : Coefficients) (b : Bool) → b ≡ allSmall k → b ≡ true → Small k
+small-told k b e h = small-facts k (sym e ∙ h)
+
+-- a product, as the code works it out
+pub product-fits : (b p : ℤ) (m : ℕ) → natAbs b ≤ 1000000000 → natAbs p ≤ m → m ≤ 1000000000 → SFits w64 (back b *ℤ back p)
+product-fits b p m hb hp h = is-fits (is-mul (is-read b hb tt) (is-read p {m = 1000000000} (omega arith) tt)) tt

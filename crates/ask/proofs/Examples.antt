@@ -1,4 +1,4 @@
--- The definitions at some places, fractions, lines and words, computed.
+-- The definitions at some places, fractions and words, computed.
 use Prim.Native.Nat.{ℕ, _^_}
 use Prim.Native.Char.{code}
 use Prim.Native.String.{String, [] as []ˢ, _∷_ as _∷ˢ_}
@@ -11,7 +11,6 @@ use Rattle.number.specs.Decimal.{signs, minus}
 use Rattle.number.specs.Whole.{wholeFrom}
 use Rattle.ask.specs.declared.six.Six.{Six}
 use Rattle.ask.specs.Spot.{lineEnds, sinceEnd, lineAt, columnAt}
-use Rattle.ask.specs.Field.{before, placeFrom, lineEnd, fieldCount, upToTab, pastTab, fieldOf}
 use Rattle.ask.specs.Six.{roundedMillionths, sixPlaces}
 use Rattle.ask.specs.Typed.{partOf, rawTyped}
 
@@ -31,19 +30,6 @@ lines = refl
 columns : map (columnAt text) (0 ∷ 1 ∷ 2 ∷ 3 ∷ 4 ∷ 5 ∷ 6 ∷ 7 ∷ 99 ∷ []) ≡ 1 ∷ 2 ∷ 3 ∷ 1 ∷ 1 ∷ 2 ∷ 3 ∷ 3 ∷ 3 ∷ []
 unfolding bytes text columnAt sinceEnd
 columns = refl
-
-line-ends : map (lineEnd text) (0 ∷ 2 ∷ 3 ∷ 4 ∷ 6 ∷ 7 ∷ []) ≡ 2 ∷ 2 ∷ 3 ∷ 6 ∷ 6 ∷ 6 ∷ []
-unfolding bytes text lineEnd placeFrom before
-line-ends = refl
-
--- ---- fields: one may be empty, and one that a line does not have is
-fields : map (λ (k : ℕ). fieldOf k (bytes "A\tB\t\tC")) (0 ∷ 1 ∷ 2 ∷ 3 ∷ 4 ∷ 9 ∷ []) ≡ bytes "A" ∷ bytes "B" ∷ [] ∷ bytes "C" ∷ [] ∷ [] ∷ []
-unfolding bytes fieldOf upToTab pastTab
-fields = refl
-
-field-counts : map (λ (s : String). fieldCount (bytes s)) ("A\tB\t\tC" ∷ "A" ∷ "" ∷ "\t" ∷ "A\t" ∷ []) ≡ 4 ∷ 1 ∷ 1 ∷ 2 ∷ 2 ∷ []
-unfolding bytes fieldCount
-field-counts = refl
 
 -- ---- fractions in six places: halves go up, and a million millionths are a whole
 abbrev six : ℕ → ℕ → Six

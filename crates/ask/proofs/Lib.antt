@@ -1,6 +1,5 @@
 -- The laws behind the contracts, those about the definitions, and worked examples.
 pub mod Spots
-pub mod Fields
 pub mod Typings
 pub mod Sixes
 pub mod Laws

@@ -2,7 +2,7 @@
 use crate::buffer::put_byte;
 use crate::ending::say;
 use crate::sizes::front;
-use ask::field::line_end;
+use lines::field::line_end;
 ghost use mathlib.Core.Path.{_≡_};
 ghost use Prim.Native.Nat.{_≤_};
 ghost use lib.ListN.{length};

@@ -1,7 +1,7 @@
 -- `field_start` meets its contract. The loop keeps `Left`.
-use Rattle.ask.proofs.field.field_start.Statement.{statement}
-use Rattle.ask.proofs.field.field_start.Tie as tie
-use Rattle.ask.proofs.Fields.{Left, starts}
+use Rattle.lines.proofs.field.field_start.Statement.{statement}
+use Rattle.lines.proofs.field.field_start.Tie as tie
+use Rattle.lines.proofs.Fields.{Left, starts}
 
 abbrev Inv-loop : tie.InvT-loop
 Inv-loop s k at₀ left₀ at left = Left s k at left

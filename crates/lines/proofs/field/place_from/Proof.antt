@@ -1,8 +1,8 @@
 -- `place_from` meets its contract. The loop keeps the place that is looked for.
-use Rattle.ask.proofs.field.place_from.Statement.{statement}
-use Rattle.ask.proofs.field.place_from.Tie as tie
-use Rattle.ask.proofs.Fields.{places}
-use Rattle.ask.specs.Field.{placeFrom}
+use Rattle.lines.proofs.field.place_from.Statement.{statement}
+use Rattle.lines.proofs.field.place_from.Tie as tie
+use Rattle.lines.proofs.Fields.{places}
+use Rattle.lines.specs.Field.{placeFrom}
 use lib.ListN.{length}
 use Prim.Native.Nat.{_-_}
 use mathlib.Core.Path.{_≡_}

@@ -10,7 +10,7 @@ use borrow.Author.Needs.{needs}
 use lib.Dec.{eqb, ltb}
 use lib.ListN.{length, take, drop, getD, length-drop, drop-of-length-le}
 use lib.Seq.{drop-cons, drop-drop, drop-length}
-use Rattle.ask.specs.Field.{before, placeFrom, lineEnd, fieldCount, upToTab, pastTab, fieldOf}
+use Rattle.lines.specs.Field.{before, placeFrom, lineEnd, fieldCount, upToTab, pastTab, fieldOf}
 
 -- ---- the first place of a byte
 low-turn : (t : Bool) (n m : ℕ) → n ≤ m → cond t 0 (suc n) ≤ suc m

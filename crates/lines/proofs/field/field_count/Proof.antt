@@ -1,7 +1,7 @@
 -- `field_count` meets its contract. The loop keeps `Tabs`.
-use Rattle.ask.proofs.field.field_count.Statement.{statement}
-use Rattle.ask.proofs.field.field_count.Tie as tie
-use Rattle.ask.proofs.Fields.{Tabs, tabs}
+use Rattle.lines.proofs.field.field_count.Statement.{statement}
+use Rattle.lines.proofs.field.field_count.Tie as tie
+use Rattle.lines.proofs.Fields.{Tabs, tabs}
 use lib.ListN.{length}
 use mathlib.Core.Logic.{⊎-elim}
 use Prim.Native.Nat.{_-_}

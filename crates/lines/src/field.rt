@@ -2,7 +2,7 @@
 ghost use mathlib.Core.Path.{_≡_};
 ghost use Prim.Native.Nat.{_≤_};
 ghost use lib.ListN.{length, drop};
-ghost use Rattle.ask.specs.Field.{placeFrom, lineEnd, fieldCount, fieldOf, upToTab};
+ghost use Rattle.lines.specs.Field.{placeFrom, lineEnd, fieldCount, fieldOf, upToTab};
 
 // The byte that parts fields, and the byte that ends a line.
 const TAB: u8 = 9;

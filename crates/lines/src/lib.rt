@@ -1,0 +1,2 @@
+// A text's lines, and a line's fields.
+pub mod field;

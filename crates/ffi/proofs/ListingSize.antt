@@ -11,7 +11,8 @@ use Rattle.number.specs.Answer.{given, refused}
 use Rattle.tables.specs.Form.{object, group, tablesIn}
 use Rattle.tables.specs.Group.{elements, sumBelow}
 use Rattle.list.specs.Calls.{Kept, checked, hasRoom, lentBy}
-use Rattle.listing.specs.Print.{figuresOf, signed, slice, physical, line, header}
+use Rattle.print.specs.Print.{figuresOf, signed, slice}
+use Rattle.listing.specs.Print.{physical, line, header}
 use Rattle.listing.specs.Listing.{Columns, columnsOf, nameOf, lineAt, printedPart, printedBelow, printed, listedBy, ifFits, keptNo, listing}
 use Rattle.listing.proofs.ListingLaws.{kept-text, kept-lines, kept-passed, kept-refused}
 use Rattle.ffi.specs.Numbers.{heldCount}

@@ -8,8 +8,8 @@ use Rattle.number.specs.Answer.{given, refused}
 use Rattle.records.specs.Cells.{countIn}
 use Rattle.text.specs.Bytes.{spelt}
 use Rattle.tables.specs.Form.{sections, group, tablesIn}
-use Rattle.listing.specs.Print.{figuresOf, signed, physical, line, header}
-use Rattle.listing.specs.Put.{put}
+use Rattle.print.specs.Print.{figuresOf}
+use Rattle.listing.specs.Print.{physical, line, header}
 use Rattle.listing.specs.Listing.{Columns, columns, printedPart, printedBelow, printed, ifFits}
 
 -- an empty list prints the header alone
@@ -30,23 +30,13 @@ relay : line [] (spelt "RELAY") 2 0 (pos 1) (physical (spelt "1 \"ON\" ") 2 (pos
 unfolding line physical figuresOf
 relay = refl
 
--- numbers
-numbers : map signed (pos 0 ∷ pos 9 ∷ pos 10 ∷ pos 100 ∷ negsuc 0 ∷ negsuc 9 ∷ pos 9223372036854775807 ∷ negsuc 9223372036854775807 ∷ [])
-    ≡ spelt "0" ∷ spelt "9" ∷ spelt "10" ∷ spelt "100" ∷ spelt "-1" ∷ spelt "-10" ∷ spelt "9223372036854775807" ∷ spelt "-9223372036854775808" ∷ []
-unfolding figuresOf
-numbers = refl
-
 -- a fraction is never cancelled; any state but 1 and 2 is none; a text outside the description has no bytes
 values : physical [] 1 (negsuc 3) (pos 2) ∷ physical [] 0 (pos 7) (pos 8) ∷ physical [] 3 (pos 7) (pos 8) ∷ physical (spelt "ab") 2 (pos 1) (pos 9) ∷ physical (spelt "ab") 2 (pos 2) (pos 1) ∷ []
     ≡ spelt "-4/2" ∷ spelt "-" ∷ spelt "-" ∷ spelt "b" ∷ spelt "" ∷ []
 unfolding physical figuresOf
 values = refl
 
--- a buffer of as many bytes is enough, one less is 20; room past the bytes is untouched
+-- a buffer of as many bytes is enough, one less is 20
 room : map (λ (n : ℕ). ifFits header (replicate n 7)) (29 ∷ 28 ∷ []) ≡ given header ∷ refused 20 ∷ []
 unfolding header
 room = refl
-
-laid-in-front : put 1 (65 ∷ 66 ∷ []) (7 ∷ 7 ∷ 7 ∷ 7 ∷ []) ∷ put 3 (65 ∷ 66 ∷ []) (7 ∷ 7 ∷ 7 ∷ 7 ∷ []) ∷ [] ≡ (7 ∷ 65 ∷ 66 ∷ 7 ∷ []) ∷ (7 ∷ 7 ∷ 7 ∷ 65 ∷ []) ∷ []
-unfolding put
-laid-in-front = refl

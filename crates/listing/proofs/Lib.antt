@@ -1,5 +1,4 @@
 -- Laws that belong to no one function, and examples.
-pub mod PutLaws
 pub mod LineLaws
 pub mod ListingLaws
 pub mod Examples

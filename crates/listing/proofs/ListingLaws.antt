@@ -29,12 +29,13 @@ use Rattle.tables.proofs.Reading.{total-is, total-most}
 use Rattle.list.specs.Element.{pastRecords}
 use Rattle.list.proofs.CheckLaws.{checked-refused, checked-tests, checked-passed, group-is}
 use Rattle.list.specs.Calls.{isElement, Kept, kept, lentOf, lentBy, unless, checked, checkedNo, hasRoom, room}
+use Rattle.print.specs.Print.{slice}
+use Rattle.print.specs.Put.{put, Put}
+use Rattle.print.proofs.PutLaws.{put-none, put-then, length-put}
 use Rattle.listing.specs.declared.listing.ListingAnswer.{ListingAnswer}
 use Rattle.listing.specs.declared.listing.ListingAnswer.the-variants.{Written, Refused}
-use Rattle.listing.specs.Print.{slice, physical, line, header}
-use Rattle.listing.specs.Put.{put, Put}
+use Rattle.listing.specs.Print.{physical, line, header}
 use Rattle.listing.specs.Listing.{Columns, columns, columnsOf, keptNo, printing, lineAt, printedPart, printedBelow, printed, laid, listedBy, listedOf, ifFits, listing}
-use Rattle.listing.proofs.PutLaws.{put-none, put-then, length-put}
 
 -- ---- columns
 

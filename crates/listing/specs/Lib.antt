@@ -1,4 +1,3 @@
 -- The printed listing.
 pub mod Print
-pub mod Put
 pub mod Listing

@@ -9,9 +9,10 @@ use Rattle.number.specs.Answer.{Answer, given, refused}
 use Rattle.tables.specs.Form.{object, group, tablesIn}
 use Rattle.tables.specs.Group.{groupOf, elements, sumBelow, lineOf}
 use Rattle.list.specs.Calls.{Kept, checked, checkedNo, hasRoom, lentBy, unless, isElement}
+use Rattle.print.specs.Print.{slice}
 use Rattle.listing.specs.declared.listing.ListingAnswer.{ListingAnswer}
 use Rattle.listing.specs.declared.listing.ListingAnswer.the-variants.{Written, Refused}
-use Rattle.listing.specs.Print.{slice, physical, line, header}
+use Rattle.listing.specs.Print.{physical, line, header}
 
 -- the list's four columns
 pub record Columns : Type 0 where

@@ -1,31 +1,13 @@
--- How numbers, texts and lines are printed.
-use Prim.Native.Nat.{ℕ, zero, suc, _+_, _-_, _/_, _%_}
+-- How values and lines are printed.
+use Prim.Native.Nat.{ℕ}
 use mathlib.Core.List.{List, [], _∷_, _++_}
 use mathlib.Core.Bool.{cond}
-use lib.Dec.{eqb, ltb}
-use lib.IntN.{ℤ, pos, negsuc, natAbs}
-use lib.ListN.{take, drop}
+use lib.Dec.{eqb}
+use lib.IntN.{ℤ, natAbs}
 use Rattle.text.specs.Bytes.{spelt}
+use Rattle.print.specs.Print.{figures, signed, slice}
 
--- the decimal figures of a number, of at most f of them
-unfoldable pub figuresOf : ℕ → ℕ → List ℕ
-figuresOf zero n = []
-figuresOf (suc f) n = cond (ltb n 10) ((48 + n) ∷ []) (figuresOf f (n / 10) ++ ((48 + n % 10) ∷ []))
-
--- (twenty are enough for every number of 64 bits)
-abbrev pub figures : ℕ → List ℕ
-figures n = figuresOf 20 n
-
--- "the sign stands in the numerator"
-abbrev pub signed : ℤ → List ℕ
-signed (pos n) = figures n
-signed (negsuc n) = 45 ∷ figures (suc n)
-
--- the bytes of a text from a up to e
-abbrev pub slice : List ℕ → ℕ → ℕ → List ℕ
-slice x a e = take (e - a) (drop a x)
-
--- "Printed, a none is `-`", a fraction is never cancelled, a text stands as in the description, quotes included
+-- "Printed, a none is `-`", a fraction is never cancelled, "the sign stands in the numerator", a text stands as in the description, quotes included
 unfoldable pub physical : List ℕ → ℕ → ℤ → ℤ → List ℕ
 physical x state first second =
     cond (eqb state 1) (signed first ++ (47 ∷ signed second))

@@ -19,7 +19,7 @@ ghost use lib.ListN.{length, getD};
 ghost use Rattle.tables.specs.Form.{tablesIn};
 ghost use Rattle.tables.specs.Group.{elements, sumBelow};
 ghost use Rattle.list.specs.Calls.{kept};
-ghost use Rattle.listing.specs.Put.{Put};
+ghost use Rattle.print.specs.Put.{Put};
 ghost use Rattle.listing.specs.Listing.{columns, keptNo, lineAt, listedBy, ifFits, listedOf, printing};
 
 // The number at a line of a column, 0 past its end.

@@ -1,5 +1,4 @@
-// The printed listing: numbers, lines, and a whole listing into a lent buffer.
+// The printed listing: values, lines, and a whole listing into a lent buffer.
 pub mod element;
-mod figures;
 mod line;
 pub mod listing;

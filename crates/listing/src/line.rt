@@ -1,15 +1,17 @@
-// A text, a value and a line, put into a buffer from a place on.
-use crate::figures::MINUS;
-use crate::figures::put_byte;
-use crate::figures::put_figures;
-use crate::figures::put_signed;
+// A value and a line, put into a buffer from a place on.
 use cell::size::size;
+use print::figures::MINUS;
+use print::figures::put_byte;
+use print::figures::put_figures;
+use print::figures::put_signed;
+use print::slice::put_slice;
 ghost use mathlib.Core.Path.{_≡_};
 ghost use mathlib.Core.List.{[], _∷_, _++_};
-ghost use Prim.Native.Nat.{_+_, _≤_, _<_, _^_, min};
+ghost use Prim.Native.Nat.{_+_, _≤_, _<_, _^_};
 ghost use lib.ListN.{length};
-ghost use Rattle.listing.specs.Print.{figures, signed, slice, physical, letter, line};
-ghost use Rattle.listing.specs.Put.{Put};
+ghost use Rattle.print.specs.Print.{figures, signed, slice};
+ghost use Rattle.print.specs.Put.{Put};
+ghost use Rattle.listing.specs.Print.{physical, letter, line};
 
 // The bytes between the fields, at a line's end, and in a fraction.
 const TAB: u8 = 9;
@@ -29,32 +31,6 @@ const LETTER_V: u8 = 118;
 const NUMBER: u8 = 1;
 
 const TEXT: u8 = 2;
-
-// The smaller of two numbers.
-fn least(a: usize, b: usize) -> usize
-    ensures { λ r. ⌜ r ≡ min a b ⌝ }
-{
-    if a < b { a } else { b }
-}
-
-// Puts the bytes of a text from a up to e.
-pub fn put_slice(out: &mut [u8], at: usize, x: &[u8], a: usize, e: usize) -> usize
-    requires { ⌜ (at < 2 ^ 57) × (length (now x) ≤ 2 ^ 24) ⌝ }
-    ensures { λ r. ⌜ Put at (slice (now (x .entry)) a e) (now (out .entry)) r (now (out .exit)) × (r ≤ at + 2 ^ 24) ⌝ }
-{
-    let past = least(e, x.len());
-    let mut k = a;
-    let mut p = at;
-    while k < past {
-        if out.len() <= p {
-            return p + (past - k);
-        }
-        out[p] = x[k];
-        p += 1;
-        k += 1;
-    }
-    p
-}
 
 // Puts a fraction, never cancelled.
 fn put_fraction(out: &mut [u8], at: usize, n: i64, d: i64) -> usize

@@ -1,8 +1,8 @@
 // A whole listing: the header, and a line for each element of the kept list.
 use crate::element::check_list;
 use crate::element::put_element;
-use crate::line::put_slice;
 use list::check::BAD_SIZE;
+use print::slice::put_slice;
 use tables::form::GROUP;
 use tables::form::count_of;
 use tables::group::elements_of;
@@ -12,8 +12,8 @@ ghost use lib.ListN.{length};
 ghost use Rattle.tables.specs.Form.{group, tablesIn};
 ghost use Rattle.tables.specs.Group.{elements, sumBelow};
 ghost use Rattle.list.specs.Calls.{kept};
+ghost use Rattle.print.specs.Put.{Put};
 ghost use Rattle.listing.specs.Print.{header};
-ghost use Rattle.listing.specs.Put.{Put};
 ghost use Rattle.listing.specs.Listing.{columns, printedBelow, printed, listedOf, listing};
 
 // How many bytes were written, or the number of the refusal.

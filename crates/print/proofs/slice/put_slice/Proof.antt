@@ -1,7 +1,7 @@
-use Rattle.listing.proofs.line.put_slice.Statement.{statement}
-use Rattle.listing.proofs.line.put_slice.Tie as tie
+use Rattle.print.proofs.slice.put_slice.Statement.{statement}
+use Rattle.print.proofs.slice.put_slice.Tie as tie
 use Prim.Native.Nat.{_-_}
-use Rattle.listing.proofs.LineLaws.{rests, Rest}
+use Rattle.print.proofs.SliceLaws.{rests, Rest}
 
 abbrev Inv-loop : tie.InvT-loop
 Inv-loop out₀ at x a e past k₀ p₀ out k p = Rest x at a past out₀ p k out

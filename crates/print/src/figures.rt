@@ -2,8 +2,8 @@
 use cell::size::size;
 ghost use mathlib.Core.List.{[], _∷_};
 ghost use Prim.Native.Nat.{_+_, _≤_, _<_, _^_};
-ghost use Rattle.listing.specs.Print.{figuresOf, signed};
-ghost use Rattle.listing.specs.Put.{Put};
+ghost use Rattle.print.specs.Print.{figuresOf, signed};
+ghost use Rattle.print.specs.Put.{Put};
 
 // The figure 0, and the minus sign.
 const ZERO: u8 = 48;

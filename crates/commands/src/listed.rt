@@ -3,7 +3,7 @@ use console::ending::Ending;
 use console::message::refused;
 use console::sizes::LINES;
 use list::make::make_list;
-use list::write::CallAnswer;
+use look::call::CallAnswer;
 use printing::lines::print_listing;
 
 // Lists an image.

@@ -29,8 +29,8 @@ use Rattle.tables.specs.Form.{object, Tables, tablesIn, kind, mask, forbidden, 
 use Rattle.tables.specs.Group.{groupOf, bytes, placeOf}
 use Rattle.tables.specs.Rule.{keepsRule}
 use Rattle.tables.specs.Sizes.{sizesFit}
-use Rattle.list.specs.Calls.{Lent, lentBy, unless, checked, isElement, searchFrom, searched, Reading, readingOf, reading, Kept, hasRoom, remade, afterwards, making, Wanted, rawNumber, physicalText, request, onCount, asksBy, isTabVerb, wantedRaw, free, standing, judged, writtenTo, writing}
-use Rattle.list.specs.Element.{rawOf}
+use Rattle.look.specs.Calls.{Lent, lentBy, unless, checked, isElement, searchFrom, searched, Reading, readingOf, reading, Kept, hasRoom, remade, afterwards, making, Wanted, rawNumber, physicalText, request, onCount, asksBy, isTabVerb, wantedRaw, free, standing, judged, writtenTo, writing}
+use Rattle.look.specs.Element.{rawOf}
 use Rattle.listing.specs.Listing.{columnsOf, printed, listedBy, ifFits, listing}
 use Rattle.ffi.specs.Numbers.{loadNumber, findNumber, readBy, readTold, callNumber, listingNumber}
 use Rattle.ffi.specs.Back.{loadBack, Tellable, findBack, doneOf, callBack, listingBack}

@@ -10,7 +10,7 @@ use lib.ListN.{length, getD, length-append, length-take, length-drop}
 use Rattle.number.specs.Answer.{given, refused}
 use Rattle.tables.specs.Form.{object, group, tablesIn}
 use Rattle.tables.specs.Group.{elements, sumBelow}
-use Rattle.list.specs.Calls.{Kept, checked, hasRoom, lentBy}
+use Rattle.look.specs.Calls.{Kept, checked, hasRoom, lentBy}
 use Rattle.print.specs.Print.{figuresOf, signed, slice}
 use Rattle.listing.specs.Print.{physical, line, header}
 use Rattle.listing.specs.Listing.{Columns, columnsOf, nameOf, lineAt, printedPart, printedBelow, printed, listedBy, ifFits, keptNo, listing}

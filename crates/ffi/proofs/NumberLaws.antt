@@ -12,11 +12,11 @@ use Rattle.load.specs.Load.{Loaded, loadedOf}
 use Rattle.load.specs.declared.LoadAnswer.{LoadAnswer}
 use Rattle.load.specs.declared.LoadAnswer.the-variants as load
 use Rattle.number.specs.Answer.{Answer}
-use Rattle.list.specs.Calls.{Kept, After, rawNumber, request, writing}
-use Rattle.list.specs.Told.{toldSearch, toldCall, after}
-use Rattle.list.specs.declared.search.SearchAnswer.{SearchAnswer}
-use Rattle.list.specs.declared.search.SearchAnswer.the-variants as search
-use Rattle.list.specs.declared.write.CallAnswer.{CallAnswer}
+use Rattle.look.specs.Calls.{Kept, After, rawNumber, request, writing}
+use Rattle.look.specs.Told.{toldSearch, toldCall, after}
+use Rattle.look.specs.declared.search.SearchAnswer.{SearchAnswer}
+use Rattle.look.specs.declared.search.SearchAnswer.the-variants as search
+use Rattle.look.specs.declared.call.CallAnswer.{CallAnswer}
 use Rattle.listing.specs.Listing.{Listed, listedOf}
 use Rattle.listing.specs.Listing as listings
 use Rattle.listing.specs.declared.listing.ListingAnswer.{ListingAnswer}

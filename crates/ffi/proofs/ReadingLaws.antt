@@ -16,10 +16,10 @@ use Rattle.convert.specs.Told.{toldShown}
 use Rattle.convert.specs.declared.fraction.Physical.{Physical}
 use Rattle.convert.specs.declared.fraction.Shown.{Shown}
 use Rattle.convert.specs.declared.fraction.Shown.the-variants as shown
-use Rattle.list.specs.Calls.{Reading}
-use Rattle.list.specs.Told.{toldRead}
-use Rattle.list.specs.declared.read.ReadAnswer.{ReadAnswer}
-use Rattle.list.specs.declared.read.ReadAnswer.the-variants as read
+use Rattle.look.specs.Calls.{Reading}
+use Rattle.look.specs.Told.{toldRead}
+use Rattle.look.specs.declared.read.ReadAnswer.{ReadAnswer}
+use Rattle.look.specs.declared.read.ReadAnswer.the-variants as read
 use Rattle.list.proofs.RefreshLaws.{put-past}
 use Rattle.ffi.specs.Numbers.{kindShown, numberShown, fiveOf, front, readCall, readTold}
 

@@ -13,7 +13,7 @@ use Rattle.convert.specs.declared.fraction.Physical.{Physical}
 use Rattle.load.specs.Load.{Loaded}
 use Rattle.load.specs.declared.LoadAnswer.{LoadAnswer}
 use Rattle.load.specs.declared.LoadAnswer.the-variants as load
-use Rattle.list.specs.Calls.{Reading, Kept, After, unless}
+use Rattle.look.specs.Calls.{Reading, Kept, After, unless}
 use Rattle.listing.specs.Listing.{Listed}
 use Rattle.listing.specs.declared.listing.ListingAnswer.{ListingAnswer}
 use Rattle.listing.specs.declared.listing.ListingAnswer.the-variants as listing

@@ -3,13 +3,13 @@ mod reading;
 mod told;
 
 use list::make::make_list;
-use list::read::ReadAnswer;
-use list::read::read;
-use list::search::search;
 use list::write::write_physical;
 use list::write::write_raw;
 use listing::listing::listing;
 use load::load;
+use look::read::ReadAnswer;
+use look::read::read;
+use look::search::search;
 use reading::put_reading;
 use told::call_number;
 use told::find_number;
@@ -18,7 +18,7 @@ use told::load_number;
 ghost use mathlib.Core.Path.{_≡_};
 ghost use lib.ListN.{length};
 ghost use Rattle.load.specs.Load.{loaded};
-ghost use Rattle.list.specs.Calls.{lentOf, kept, searched, reading, making, rawNumber, physicalText, request, writing};
+ghost use Rattle.look.specs.Calls.{lentOf, kept, searched, reading, making, rawNumber, physicalText, request, writing};
 ghost use Rattle.listing.specs.Listing.{listing};
 ghost use Rattle.ffi.specs.Numbers.{version, loadCall, loadTold, findNumber, readCall, readTold, listCall, listTold, listingCall, listingTold};
 

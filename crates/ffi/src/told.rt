@@ -1,11 +1,11 @@
 // The library's answers as numbers.
-use list::search::SearchAnswer;
-use list::write::CallAnswer;
 use listing::listing::ListingAnswer;
 use load::LoadAnswer;
+use look::call::CallAnswer;
+use look::search::SearchAnswer;
 ghost use mathlib.Core.Path.{_≡_};
 ghost use lib.IntN.{pos, negℤ};
-ghost use Rattle.list.specs.Told.{toldSearch, toldCall};
+ghost use Rattle.look.specs.Told.{toldSearch, toldCall};
 ghost use Rattle.ffi.specs.Numbers.{toldLoad, loadNumber, findNumber, callNumber, toldListing, heldCount, listingNumber};
 
 // A refusal's number and place in one number: the place times 64, and the number.

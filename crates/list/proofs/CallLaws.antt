@@ -14,13 +14,14 @@ use Rattle.convert.specs.declared.asked.RawAnswer.{RawAnswer}
 use Rattle.convert.specs.declared.asked.RawAnswer.the-variants as wanted
 use Rattle.tables.specs.Form.{tablesIn, total, kind, first, mask}
 use Rattle.tables.specs.Group.{groupOf, sumBelow, elements, bytes, placeOf}
-use Rattle.list.specs.Element.{pastRecords, picked}
-use Rattle.list.specs.Calls.{checked, checkedNo, standing, standingNo, judged, Kept, kept, room, hasRoom, groups, remade, refreshed, After, afterwards, lentBy, making, Wanted, request, wantedRaw, stored, writtenTo, writing}
-use Rattle.list.specs.Told.{after}
-use Rattle.list.specs.declared.write.CallAnswer.the-variants as call
-use Rattle.list.proofs.CheckLaws.{checked-refused, checked-passed, group-is}
+use Rattle.look.specs.Element.{pastRecords, picked}
+use Rattle.look.specs.Calls.{checked, checkedNo, standing, standingNo, judged, Kept, kept, room, hasRoom, groups, remade, refreshed, After, afterwards, lentBy, making, Wanted, request, wantedRaw, stored, writtenTo, writing}
+use Rattle.look.specs.Told.{after}
+use Rattle.look.specs.declared.call.CallAnswer.the-variants as call
+use Rattle.look.proofs.CheckLaws.{checked-refused, checked-passed, group-is}
 use Rattle.list.proofs.StandLaws.{standing-refused, standing-passed, stands-so}
-use Rattle.list.proofs.RefreshLaws.{lines-hold, refreshed-all}
+use Rattle.list.proofs.RefreshLaws.{refreshed-all}
+use Rattle.look.proofs.RoomLaws.{lines-hold}
 
 -- ---- making a list
 module _ (t : List ℕ) (n base : ℕ) (k : Kept) (lines : ℕ) (pl : lines ≡ room k) (enough : Bool) (pe : enough ≡ leb (total (tablesIn t)) lines) (r : ℕ) where

@@ -10,7 +10,7 @@ use native.Mathlib.Omega.{arith}
 use lib.ListN.{length, getD, set, drop, length-append, length-drop, List·getD-append}
 use lib.Seq.{drop-cons, set-append-seam, set-getD, getD-append-add, getD-drop, drop-append-seam, append-snoc, getD-at}
 use Rattle.tables.specs.Group.{sumBelow}
-use Rattle.list.specs.Lines.{part, lines, over, made, keep, fresh}
+use Rattle.look.specs.Lines.{part, lines, over, made, keep, fresh}
 
 -- ---- the lines before a group
 pub sum-more : (c : ℕ → ℕ) (g : ℕ) → sumBelow (g + 1) c ≡ sumBelow g c + c g

@@ -1,55 +1,22 @@
 -- The lines worked out afresh: what the loop keeps, and what a turn of it does.
 use mathlib.Core.Path.{_≡_, refl, sym, ap, _∙_}
 use mathlib.Core.List.{List}
-use mathlib.Core.Bool.{Bool, true, false, cond, _&&_, _||_}
+use mathlib.Core.Bool.{Bool, true, false, cond, _||_}
 use Prim.Native.Nat.{ℕ, zero, suc, _+_, _-_, _≤_, _<_}
 use native.Mathlib.Omega.{arith}
 use native.Mathlib.Numerals.{add-one}
 use native.Mathlib.Nat.{add-zero}
 use borrow.Author.Needs.{needs}
-use borrow.Author.Tests.{lt-ltb, le-ltb, leb-true, ltb-true, ltb-false}
-use lib.Dec.{ltb, leb}
 use lib.IntN.{ℤ, pos}
 use lib.ListN.{length, getD, set, length-set}
 use lib.Seq.{set-out}
-use Rattle.tables.specs.Form.{tablesIn, total}
-use Rattle.tables.specs.Group.{sumBelow, elements, bytes, placeOf}
-use Rattle.tables.specs.Sizes.{sizesFit}
-use Rattle.tables.proofs.Reading.{total-is}
-use Rattle.list.specs.declared.element.Line.{Line}
-use Rattle.list.specs.Lines.{over, keep, fresh}
-use Rattle.list.specs.Element.{lineOf, shares, touched}
-use Rattle.list.specs.Calls.{Lent, checkedNo, Kept, kept, room, groups, putLine, putLines, remade, refreshed}
+use Rattle.tables.specs.Form.{tablesIn}
+use Rattle.tables.specs.Group.{sumBelow, elements}
+use Rattle.look.specs.declared.element.Line.{Line}
+use Rattle.look.specs.Lines.{over, keep, fresh}
+use Rattle.look.specs.Element.{lineOf}
+use Rattle.look.specs.Calls.{Kept, kept, room, groups, putLine, putLines, remade, refreshed}
 use Rattle.list.proofs.LineLaws.{sum-more, sum-in, over-none, upto, upto-none, upto-next, upto-all, turn, length-at, line-kept, line-fresh, fresh-all}
-use Rattle.list.proofs.CheckLaws.{checked-tests}
-use Rattle.text.proofs.Within.{and-right}
-
--- ---- bytes in common
-pub below-from : (a b m : ℕ) → a < b → true ≡ ltb a (b + m)
-below-from a b m h = sym (lt-ltb a (b + m) (omega arith))
-
-below-turn : (a b m : ℕ) (t : Bool) → b ≤ a → ltb (a - b) m ≡ t → t ≡ ltb a (b + m)
-below-turn a b m true h e = sym (lt-ltb a (b + m) (omega (arith, ltb-true (a - b) m e)))
-below-turn a b m false h e = sym (le-ltb a (b + m) (omega (arith, ltb-false (a - b) m e)))
-
-pub below-past : (a b m : ℕ) → b ≤ a → ltb (a - b) m ≡ ltb a (b + m)
-below-past a b m h = below-turn a b m (ltb (a - b) m) h refl
-
-pub share-is : (lo many p w : ℕ) (a b : Bool) → a ≡ ltb p (lo + many) → b ≡ ltb lo (p + w) → (a && b) ≡ shares lo (lo + many) p w
-unfolding shares
-share-is lo many p w a b e f = rw (e, f)
-
-pub touch-is : (t : List ℕ) (lo hi g i p w : ℕ) (b : Bool) → p ≡ placeOf (tablesIn t) g i → w ≡ bytes (tablesIn t) g → b ≡ shares lo hi p w → b ≡ touched t lo hi g i
-unfolding touched
-touch-is t lo hi g i p w b e f h = h ∙ rw (e, f)
-
-pub ruleset commons = (below-from, below-past, share-is, touch-is, needs)
-
--- whether the lines are enough
-pub enough-is : (t : List ℕ) (a lines : ℕ) → a ≡ total (tablesIn t) → leb a lines ≡ leb (total (tablesIn t)) lines
-enough-is t a lines e = rw e
-
-pub ruleset enoughs = (enough-is, needs)
 
 -- ---- one column
 pub put-past : {A : Type 0} (l : List A) (k : ℕ) (v : A) → length l ≤ k → l ≡ set l k v
@@ -302,11 +269,3 @@ refreshed-all t k s h =
     (fresh-all _ _ 0 (elements (tablesIn t)) (groups t) (k .state) (λ g i p q. h g i))
     (fresh-all _ _ (pos 0) (elements (tablesIn t)) (groups t) (k .first) (λ g i p q. h g i))
     (fresh-all _ _ (pos 0) (elements (tablesIn t)) (groups t) (k .second) (λ g i p q. h g i))
-
--- every element has its line, where the call is not refused
-pub lines-hold : (t : List ℕ) (l : Lent) (r lines : ℕ) (enough : Bool) → enough ≡ leb (total (tablesIn t)) lines → r ≡ checkedNo t l enough → r ≡ 0
-    → sumBelow (groups t) (elements (tablesIn t)) ≤ lines
-lines-hold t l r lines enough e p h =
-    let b = checked-tests t l enough r p h in
-    let f = leb-true (total (tablesIn t)) lines (sym e ∙ and-right (sizesFit (l .text) (l .image) (l .base) (length t)) enough (b .0)) in
-    omega (arith, total-is (l .text) (l .image) t (b .1))

@@ -14,9 +14,9 @@ use Rattle.cell.specs.Kind.{shapeOf}
 use Rattle.cell.specs.declared.kind.Shape.{Shape}
 use Rattle.tables.specs.Form.{tablesIn, forbidden, counter, counterPlace}
 use Rattle.tables.specs.Group.{groupOf, bytes, placeOf}
-use Rattle.list.specs.Element.{pastRecords, shares}
-use Rattle.list.specs.Calls.{Lent, refusalOf, checked, checkedNo, isElement, groups, anyBelow, isCounted, onCount, free, freeNo, standing, standingNo}
-use Rattle.list.proofs.CheckLaws.{two, checked-refused, checked-passed, group-is}
+use Rattle.look.specs.Element.{pastRecords, shares}
+use Rattle.look.specs.Calls.{Lent, refusalOf, checked, checkedNo, isElement, groups, anyBelow, isCounted, onCount, free, freeNo, standing, standingNo}
+use Rattle.look.proofs.CheckLaws.{two, checked-refused, checked-passed, group-is}
 
 -- ---- a stored count
 pub counted-is : (t : List ℕ) (lo hi g k p : ℕ) (s : Shape) (b : Bool) → k ≡ counter (tablesIn t) g → p ≡ counterPlace (tablesIn t) g → s ≡ shapeOf k

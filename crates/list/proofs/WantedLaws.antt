@@ -2,22 +2,17 @@
 use mathlib.Core.Path.{_≡_, _∙_}
 use mathlib.Core.List.{List}
 use mathlib.Core.Bool.{Bool, true, false}
-use Prim.Native.Nat.{ℕ, _-_, min}
+use Prim.Native.Nat.{ℕ}
 use borrow.Author.Needs.{needs}
-use borrow.Author.Tests.{ne-eqb}
-use lib.Dec.{eqb}
 use lib.IntN.{ℤ}
 use Rattle.number.specs.Answer.{Answer, given, refused}
 use Rattle.number.specs.Decimal.{Scaled}
 use Rattle.cell.specs.Kind.{shapeOf}
 use Rattle.cell.specs.Raw.{fitsRaw}
 use Rattle.convert.specs.Asked.{askedRaw}
-use Rattle.convert.specs.Method.{identicalOf}
 use Rattle.convert.specs.declared.method.Coefficients.{Coefficients}
-use Rattle.tables.specs.Form.{method, tablesIn, kind, mask, methodOf, limit, coefficients}
-use Rattle.list.specs.Element.{pastRecords}
-use Rattle.list.specs.Calls.{rawNumber, physicalText, asksBy, isTabVerb, wantedRaw}
-use Rattle.list.proofs.ElementLaws.{method-slot, near-coefficients}
+use Rattle.tables.specs.Form.{tablesIn, kind, mask, limit}
+use Rattle.look.specs.Calls.{rawNumber, physicalText, asksBy, isTabVerb, wantedRaw}
 
 module _ (t : List ℕ) (g k m : ℕ) (pk : k ≡ kind (tablesIn t) g) (pm : m ≡ mask (tablesIn t) g) where
   -- y is what the machine reads back of z
@@ -35,21 +30,4 @@ module _ (t : List ℕ) (g k m : ℕ) (pk : k ≡ kind (tablesIn t) g) (pm : m �
 pub asked-text : (t : List ℕ) (g : ℕ) (s : List ℕ) (b : Bool) → b ≡ isTabVerb (tablesIn t) g → b ≡ true → refused 15 ≡ wantedRaw (tablesIn t) g (physicalText s)
 asked-text t g s b e q = rw (← e, q)
 
-module _ (t : List ℕ) (g m : ℕ) (p : m ≡ methodOf (tablesIn t) g) where
-  pub verb-none : m ≡ 0 → false ≡ isTabVerb (tablesIn t) g
-  unfolding isTabVerb
-  verb-none e = rw (← p, e)
-
-  pub verb-is : (n k : ℕ) → (m ≡ 0 → ⊥) → n ≡ min (m - 1) pastRecords → k ≡ tablesIn t .slots method n 0 → eqb k 22 ≡ isTabVerb (tablesIn t) g
-  unfolding isTabVerb
-  verb-is n k e q r = rw (r, q, method-slot t 0 (m - 1), ← p, ne-eqb m 0 e)
-
-  pub asks-same : (f : Coefficients) → m ≡ 0 → f ≡ identicalOf → f ≡ asksBy (tablesIn t) g
-  unfolding asksBy
-  asks-same f e h = h ∙ rw (← p, e)
-
-  pub asks-is : (n : ℕ) (f : Coefficients) → (m ≡ 0 → ⊥) → n ≡ min (m - 1) pastRecords → f ≡ coefficients (tablesIn t) n → f ≡ asksBy (tablesIn t) g
-  unfolding asksBy
-  asks-is n f e q h = h ∙ rw (q, near-coefficients t (m - 1), ← p, ne-eqb m 0 e)
-
-pub ruleset wants = (raw-fits, raw-unfit, asked-text, verb-none, verb-is, asks-same, asks-is, needs)
+pub ruleset wants = (raw-fits, raw-unfit, asked-text, needs)

@@ -1,6 +1,6 @@
 -- What an accepted write keeps and changes: the lemmas behind the demand's theorems.
 use mathlib.Core.Path.{_≡_, refl, sym, ap, _∙_, subst}
-use mathlib.Core.List.{List, [], _∷_}
+use mathlib.Core.List.{List}
 use mathlib.Core.Bool.{Bool, true, false, cond, not, _&&_, _||_}
 use mathlib.Core.Logic.{_⊎_, inl, inr}
 use Prim.Native.Nat.{ℕ, zero, suc, _+_, _%_, _^_, _≤_, _<_}
@@ -28,11 +28,11 @@ use Rattle.tables.specs.Rule.{isType, noPart, pointsRule, counterRule, axisRule
 use Rattle.tables.specs.Sizes.{sizesFit}
 use Rattle.tables.proofs.All.{left, right, three, five, six, all-at}
 use Rattle.tables.proofs.Reading.{rule-facts, groups-are}
-use Rattle.list.specs.declared.element.Line.{Line}
-use Rattle.list.specs.Element.{means, rawOf, lineWith, lineOf, shares, touched}
-use Rattle.list.specs.Calls.{Lent, lentBy, isElement, standingNo, Kept, room, groups, hasRoom, remade, refreshed, After, afterwards, Wanted, rawNumber, physicalText, Request, groupIn, asksBy, isTabVerb, wantedRaw, judged, stored, writtenTo, writing, running, lineAt, withImage}
+use Rattle.look.specs.declared.element.Line.{Line}
+use Rattle.look.specs.Element.{means, rawOf, lineWith, lineOf, shares, touched}
+use Rattle.look.specs.Calls.{Lent, lentBy, isElement, standingNo, Kept, room, groups, hasRoom, remade, refreshed, After, afterwards, Wanted, rawNumber, physicalText, Request, groupIn, asksBy, isTabVerb, wantedRaw, judged, stored, writtenTo, writing, lineAt, withImage}
 use Rattle.list.proofs.LineLaws.{fresh-made, fresh-else, fresh-past, made-past, made-made, length-made}
-use Rattle.list.proofs.CheckLaws.{checked-tests, named}
+use Rattle.look.proofs.CheckLaws.{checked-tests, named}
 use Rattle.list.proofs.StandLaws.{Stands, standing-refused, standing-passed, stands-so}
 
 pub never : {A : Type 0} (n : ℕ) (a : A) → refused n ≡ given a → ⊥
@@ -307,7 +307,7 @@ module _ (t : List ℕ) (n base : ℕ) (k : Kept) where
     pub long : length image ≡ length (k .image)
     pub anew : c ≡ remade t (withImage image k)
 
-  write-step : (image : List ℕ) → length image ≡ length (k .image) → (q : Request) → Anew (writing t n base (remade t (withImage image k)) q .left)
+  pub write-step : (image : List ℕ) → length image ≡ length (k .image) → (q : Request) → Anew (writing t n base (remade t (withImage image k)) q .left)
   write-step image l q =
       by-answer t n base (remade t (withImage image k)) q (λ (a : After). Anew (a .left))
       (λ c e. record { image = image; long = l; anew = refl })
@@ -316,12 +316,6 @@ module _ (t : List ℕ) (n base : ℕ) (k : Kept) where
         long = length-stored t (groupIn q) (q .index) image z ∙ l;
         anew = write-remade t (groupIn q) (q .index) (withImage image k) z;
       })
-
-  pub run-anew : (c : Kept) → Anew c → (qs : List Request) → Anew (running t n base c qs)
-  run-anew c a [] = a
-  run-anew c a (q ∷ qs) =
-      run-anew (writing t n base c q .left)
-      (subst (λ (y : Kept). Anew (writing t n base y q .left)) (sym (a .anew)) (write-step (a .image) (a .long) q)) qs
 
   pub start-anew : Anew (remade t k)
   start-anew = record { image = k .image; long = refl; anew = refl }

@@ -1,5 +1,5 @@
 // Groups whose bytes lie apart from those written.
-use crate::bytes::share;
+use look::bytes::share;
 use tables::group::Storage;
 use tables::group::place_by;
 use tables::group::type_bytes;
@@ -8,7 +8,7 @@ ghost use mathlib.Core.Bool.{true, false};
 ghost use Prim.Native.Nat.{ℕ, _+_, _*_, _≤_, _<_};
 ghost use Rattle.cell.specs.Kind.{shapeOf};
 ghost use Rattle.tables.specs.Group.{placeBy};
-ghost use Rattle.list.specs.Element.{shares};
+ghost use Rattle.look.specs.Element.{shares};
 
 // The walk of an axis whose last point is stored first.
 const LAST_FIRST: u64 = 1;

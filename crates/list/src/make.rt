@@ -1,36 +1,13 @@
 // Making a list.
-use crate::check::check;
 use crate::refresh::refresh;
-use crate::write::CallAnswer;
-use tables::group::total_of;
+use look::call::CallAnswer;
+use look::check::check;
+use look::room::is_enough;
+use look::room::room_of;
 ghost use mathlib.Core.Path.{_≡_};
-ghost use Prim.Native.Nat.{min};
-ghost use lib.Dec.{leb};
 ghost use lib.ListN.{length};
-ghost use Rattle.tables.specs.Form.{total, tablesIn};
-ghost use Rattle.list.specs.Calls.{kept, making};
-ghost use Rattle.list.specs.Told.{after};
-
-// The smaller of two lengths.
-fn smaller(a: usize, b: usize) -> usize
-    ensures { λ r. ⌜ r ≡ min a b ⌝ }
-{
-    if a < b { a } else { b }
-}
-
-// How many lines the shortest of four columns has.
-pub fn room_of(a: usize, b: usize, c: usize, d: usize) -> usize
-    ensures { λ r. ⌜ r ≡ min (min a b) (min c d) ⌝ }
-{
-    smaller(smaller(a, b), smaller(c, d))
-}
-
-// Whether so many lines hold every element.
-pub fn is_enough(t: &[u64], lines: usize) -> bool
-    ensures { λ r. ⌜ r ≡ leb (total (tablesIn (now (t .entry)))) lines ⌝ }
-{
-    total_of(t) <= (lines as u64)
-}
+ghost use Rattle.look.specs.Calls.{kept, making};
+ghost use Rattle.look.specs.Told.{after};
 
 // Makes the list of an image: a line for each element.
 pub fn make_list(

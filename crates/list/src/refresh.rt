@@ -1,10 +1,10 @@
 // The lines of the list, worked out afresh.
 use crate::apart::has_byte;
 use crate::apart::lies_apart;
-use crate::element::Line;
-use crate::meaning::Meaning;
-use crate::meaning::line_by;
-use crate::meaning::meaning_of;
+use look::element::Line;
+use look::meaning::Meaning;
+use look::meaning::line_by;
+use look::meaning::meaning_of;
 use tables::form::GROUP;
 use tables::form::count_of;
 use tables::group::Storage;
@@ -17,8 +17,8 @@ ghost use lib.ListN.{set};
 ghost use Rattle.cell.specs.Kind.{shapeOf};
 ghost use Rattle.tables.specs.Form.{tablesIn};
 ghost use Rattle.tables.specs.Group.{sumBelow, elements, storageOf, placeBy};
-ghost use Rattle.list.specs.Element.{lineOf, shares, picked};
-ghost use Rattle.list.specs.Calls.{kept, room, groups, putLine, putLines, meaningOf, refreshed};
+ghost use Rattle.look.specs.Element.{lineOf, shares, picked};
+ghost use Rattle.look.specs.Calls.{kept, room, groups, putLine, putLines, meaningOf, refreshed};
 
 // Stores a number in a column; nothing past its end.
 fn put(column: &mut [i64], k: usize, v: i64)

@@ -1,10 +1,10 @@
 // What a write judges of the element alone: 20, 22, 14, 21, 19.
-use crate::bytes::share;
-use crate::check::NO_ELEMENT;
-use crate::check::check;
-use crate::check::group_of;
-use crate::check::is_element;
 use cell::kind::shape_of;
+use look::bytes::share;
+use look::check::NO_ELEMENT;
+use look::check::check;
+use look::check::group_of;
+use look::check::is_element;
 use tables::form::GROUP;
 use tables::form::count_of;
 use tables::group::bytes_of;
@@ -14,7 +14,7 @@ use tables::group::is_forbidden;
 use tables::group::place_of;
 ghost use mathlib.Core.Path.{_≡_};
 ghost use Prim.Native.Nat.{_+_};
-ghost use Rattle.list.specs.Calls.{lentOf, isCounted, onCount, freeNo, standingNo};
+ghost use Rattle.look.specs.Calls.{lentOf, isCounted, onCount, freeNo, standingNo};
 
 // Refusals: writing forbidden, the element shares a byte with a stored count.
 pub const FORBIDDEN: u8 = 21;
@@ -33,7 +33,7 @@ fn is_counted(t: &[u64], lo: u64, many: u64, g: u16) -> bool
 }
 
 // Whether so many bytes from lo on share one with any stored count.
-fn is_on_count(t: &[u64], lo: u64, many: u64) -> bool
+pub fn is_on_count(t: &[u64], lo: u64, many: u64) -> bool
     ensures { λ r. ⌜ r ≡ onCount (now (t .entry)) lo (lo + many) ⌝ }
 {
     let n = count_of(t, GROUP);
@@ -48,7 +48,7 @@ fn is_on_count(t: &[u64], lo: u64, many: u64) -> bool
 }
 
 // Whether an element may be written at all: 21, 19, or 0 for neither.
-fn judge_element(t: &[u64], g: u16, i: u32) -> u8
+pub fn judge_element(t: &[u64], g: u16, i: u32) -> u8
     ensures { λ r. ⌜ r ≡ freeNo (now (t .entry)) g i ⌝ }
 {
     if is_forbidden(t, g) {

@@ -10,7 +10,7 @@ ghost use mathlib.Core.Path.{_≡_};
 ghost use Prim.Native.Nat.{_≤_};
 ghost use Rattle.tables.specs.Form.{tablesIn};
 ghost use Rattle.tables.specs.Group.{sumBelow, elements};
-ghost use Rattle.list.specs.Calls.{kept, room, groups, stored, writtenTo};
+ghost use Rattle.look.specs.Calls.{kept, room, groups, stored, writtenTo};
 
 // Stores a raw number in an element's bytes.
 fn store_raw(t: &[u64], image: &mut [u8], g: u16, i: u32, z: i64)

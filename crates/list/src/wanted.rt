@@ -1,24 +1,18 @@
 // The raw number that a write wants: 15, 16, 17, 18.
-use crate::element::TAB_VERB;
-use crate::element::record_before;
 use cell::raw::fits_raw;
 use convert::asked::NO_FIT;
 use convert::asked::NO_FORM;
 use convert::asked::RawAnswer;
 use convert::asked::asked_raw;
-use convert::method::Coefficients;
-use convert::method::identical;
-use tables::form::METHOD;
-use tables::form::slot_of;
+use look::method::asks_by;
+use look::method::is_tab_verb;
 use tables::group::kind_of;
 use tables::group::limit_of;
 use tables::group::mask_of;
-use tables::group::method_of;
-use tables::method::coefficients_of;
 ghost use mathlib.Core.Path.{_≡_};
 ghost use Rattle.convert.specs.Told.{toldRaw};
 ghost use Rattle.tables.specs.Form.{tablesIn};
-ghost use Rattle.list.specs.Calls.{asksBy, isTabVerb, rawNumber, physicalText, wantedRaw};
+ghost use Rattle.look.specs.Calls.{rawNumber, physicalText, wantedRaw};
 
 // Where a group holds its lower and its upper limit.
 const LOWER: u16 = 11;
@@ -33,28 +27,6 @@ pub fn raw_wanted(t: &[u64], g: u16, value: i64) -> RawAnswer
         return RawAnswer::Raw(value);
     }
     RawAnswer::Refused { no: NO_FIT }
-}
-
-// Whether a group's values are texts.
-pub fn is_tab_verb(t: &[u64], g: u16) -> bool
-    ensures { λ r. ⌜ r ≡ isTabVerb (tablesIn (now (t .entry))) g ⌝ }
-{
-    let m = method_of(t, g);
-    if m == 0 {
-        return false;
-    }
-    slot_of(t, METHOD, record_before(m), 0) == TAB_VERB
-}
-
-// The coefficients that a group's values are asked by.
-pub fn asks_by(t: &[u64], g: u16) -> Coefficients
-    ensures { λ r. ⌜ r ≡ asksBy (tablesIn (now (t .entry))) g ⌝ }
-{
-    let m = method_of(t, g);
-    if m == 0 {
-        return identical();
-    }
-    coefficients_of(t, record_before(m))
 }
 
 // The raw number nearest to a physical value, by form, limits, coefficients, and type and mask.

@@ -1,29 +1,24 @@
 // Writes: judged in full, and then stored or refused.
-use crate::check::group_of;
-use crate::make::is_enough;
-use crate::make::room_of;
 use crate::stand::judge;
 use crate::store::store;
 use crate::wanted::raw_asked;
 use crate::wanted::raw_wanted;
 use convert::asked::RawAnswer;
+use look::call::CallAnswer;
+use look::check::group_of;
+use look::room::is_enough;
+use look::room::room_of;
 ghost use mathlib.Core.Path.{_≡_};
 ghost use Prim.Native.Nat.{_≤_};
 ghost use lib.ListN.{length};
 ghost use Rattle.convert.specs.Told.{toldRaw};
 ghost use Rattle.tables.specs.Form.{tablesIn};
 ghost use Rattle.tables.specs.Group.{sumBelow, elements};
-ghost use Rattle.list.specs.Calls.{kept, room, groups, rawNumber, physicalText, request, afterwards, writtenTo, writing};
-ghost use Rattle.list.specs.Told.{after};
-
-// A call that has an effect: done, or the number of the refusal.
-pub enum CallAnswer {
-    Done,
-    Refused { no: u8 },
-}
+ghost use Rattle.look.specs.Calls.{kept, room, groups, rawNumber, physicalText, request, afterwards, writtenTo, writing};
+ghost use Rattle.look.specs.Told.{after};
 
 // Carries out what is wanted of an element, where there is a raw number for it.
-fn carry_out(
+pub fn carry_out(
     t: &[u64],
     image: &mut [u8],
     raw: &mut [i64],

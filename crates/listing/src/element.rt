@@ -1,13 +1,13 @@
 // One element of the kept list: its line, and what is tested before.
 use crate::line::put_line;
 use crate::listing::ListingAnswer;
-use list::check::BAD_SIZE;
-use list::check::NO_ELEMENT;
-use list::check::check;
-use list::check::group_of;
-use list::check::is_element;
-use list::make::is_enough;
-use list::make::room_of;
+use look::check::BAD_SIZE;
+use look::check::NO_ELEMENT;
+use look::check::check;
+use look::check::group_of;
+use look::check::is_element;
+use look::room::is_enough;
+use look::room::room_of;
 use tables::form::OBJECT;
 use tables::form::PARTS;
 use tables::form::slot_of;
@@ -18,7 +18,7 @@ ghost use lib.IntN.{pos};
 ghost use lib.ListN.{length, getD};
 ghost use Rattle.tables.specs.Form.{tablesIn};
 ghost use Rattle.tables.specs.Group.{elements, sumBelow};
-ghost use Rattle.list.specs.Calls.{kept};
+ghost use Rattle.look.specs.Calls.{kept};
 ghost use Rattle.print.specs.Put.{Put};
 ghost use Rattle.listing.specs.Listing.{columns, keptNo, lineAt, listedBy, ifFits, listedOf, printing};
 

@@ -1,7 +1,7 @@
 // A whole listing: the header, and a line for each element of the kept list.
 use crate::element::check_list;
 use crate::element::put_element;
-use list::check::BAD_SIZE;
+use look::check::BAD_SIZE;
 use print::slice::put_slice;
 use tables::form::GROUP;
 use tables::form::count_of;
@@ -11,7 +11,7 @@ ghost use Prim.Native.Nat.{_≤_, _^_};
 ghost use lib.ListN.{length};
 ghost use Rattle.tables.specs.Form.{group, tablesIn};
 ghost use Rattle.tables.specs.Group.{elements, sumBelow};
-ghost use Rattle.list.specs.Calls.{kept};
+ghost use Rattle.look.specs.Calls.{kept};
 ghost use Rattle.print.specs.Put.{Put};
 ghost use Rattle.listing.specs.Print.{header};
 ghost use Rattle.listing.specs.Listing.{columns, printedBelow, printed, listedOf, listing};

@@ -28,7 +28,7 @@ use lines::field::field_count;
 use lines::field::field_of;
 use lines::field::line_end;
 use list::make::make_list;
-use list::write::CallAnswer;
+use look::call::CallAnswer;
 use printing::lines::print_listing;
 
 // How many fields a request has, and which they are.

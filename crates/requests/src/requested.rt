@@ -8,11 +8,11 @@ use console::arguments::is_same;
 use console::ending::Ending;
 use console::ending::complain;
 use console::message::refused;
-use list::search::SearchAnswer;
-use list::search::search;
-use list::write::CallAnswer;
 use list::write::write_physical;
 use list::write::write_raw;
+use look::call::CallAnswer;
+use look::search::SearchAnswer;
+use look::search::search;
 
 // What is wrong with a request: a refusal that was said already, its fields, its index, its name, its way.
 pub const SAID: u8 = 0;

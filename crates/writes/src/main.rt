@@ -12,13 +12,13 @@ use cases::place_from;
 use libc::STDIN_FILENO;
 use libc::STDOUT_FILENO;
 use list::make::make_list;
-use list::write::CallAnswer;
 use list::write::write_physical;
 use list::write::write_raw;
 use listing::listing::ListingAnswer;
 use listing::listing::listing;
 use load::LoadAnswer;
 use load::load;
+use look::call::CallAnswer;
 
 // The most bytes of the input and of the listing, the bytes of the image; how many lines the list has room for.
 const TEXT_BYTES: usize = 32768;

@@ -3,7 +3,7 @@ use borrow.Author.Needs.{needs}
 use Rattle.list.proofs.make.make_list.Statement.{statement}
 use Rattle.list.proofs.make.make_list.Tie as tie
 use lib.ListN.{length}
-use Rattle.list.specs.Calls.{kept}
+use Rattle.look.specs.Calls.{kept}
 use Rattle.list.proofs.CallLaws.{make-refused, make-room, make-done}
 
 room-of-requires : tie.Need-room-of-requires

@@ -2,7 +2,7 @@ use borrow.Author.Needs.{needs}
 use Rattle.list.proofs.refresh.refresh_line.Statement.{statement}
 use Rattle.list.proofs.refresh.refresh_line.Tie as tie
 use Prim.Native.Nat.{_+_}
-use Rattle.list.specs.Element.{lineOf, touched}
+use Rattle.look.specs.Element.{lineOf, touched}
 use Rattle.list.proofs.RefreshLaws.{line-afresh, line-left}
 use Rattle.list.proofs.ApartLaws.{touch-group}
 

@@ -4,7 +4,7 @@ use Rattle.list.proofs.write.carry_out.Statement.{statement}
 use Rattle.list.proofs.write.carry_out.Tie as tie
 use native.Mathlib.Omega.{arith}
 use Rattle.cell.proofs.Signed.{back, returned}
-use Rattle.list.specs.Calls.{kept, writtenTo}
+use Rattle.look.specs.Calls.{kept, writtenTo}
 use Rattle.list.proofs.CallLaws.{carried, not-carried}
 
 enum-known-answer : tie.Need-enum-known-answer

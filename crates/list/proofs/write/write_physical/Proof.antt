@@ -3,7 +3,7 @@ use borrow.Author.Needs.{needs}
 use Rattle.list.proofs.write.write_physical.Statement.{statement}
 use Rattle.list.proofs.write.write_physical.Tie as tie
 use lib.ListN.{length}
-use Rattle.list.specs.Calls.{kept, physicalText}
+use Rattle.look.specs.Calls.{kept, physicalText}
 use Rattle.list.proofs.CallLaws.{write-refused, write-room, write-is}
 
 room-of-requires : tie.Need-room-of-requires

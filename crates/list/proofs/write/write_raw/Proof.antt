@@ -8,7 +8,7 @@ use native.Mathlib.Omega.{arith}
 use lib.IntN.{ℤ}
 use Rattle.cell.proofs.Signed.{returned}
 use Rattle.tables.specs.Form.{tablesIn}
-use Rattle.list.specs.Calls.{kept, rawNumber, wantedRaw}
+use Rattle.look.specs.Calls.{kept, rawNumber, wantedRaw}
 use Rattle.list.proofs.CallLaws.{write-refused, write-room, write-is}
 
 room-of-requires : tie.Need-room-of-requires

@@ -1,0 +1,2 @@
+-- What the demand speaks of beside the calls.
+pub mod Runs

@@ -1,0 +1,75 @@
+-- One element: its raw number, what it means, its line.
+use Prim.Native.Nat.{ℕ, _+_, _-_, _*_, min}
+use mathlib.Core.List.{List}
+use mathlib.Core.Bool.{Bool, cond, _&&_, _||_}
+use lib.Dec.{ltb, eqb}
+use lib.IntN.{ℤ}
+use Rattle.cell.specs.Kind.{shapeOf}
+use Rattle.cell.specs.Raw.{rawAt}
+use Rattle.convert.specs.Fraction.{Value, fractionOf}
+use Rattle.convert.specs.Method.{identicalOf}
+use Rattle.convert.specs.Verbal.{verbalOf}
+use Rattle.convert.specs.Told.{held}
+use Rattle.convert.specs.declared.fraction.Physical.{Physical}
+use Rattle.records.specs.Cells.{baseIn}
+use Rattle.tables.specs.Form.{sections, method, table, entry, tablesIn, kind, first, methodOf, mask, coefficients}
+use Rattle.tables.specs.Group.{bytes, placeOf}
+use Rattle.tables.specs.Rule.{isVerbal}
+use Rattle.look.specs.declared.element.Line.{Line}
+
+-- ---- what a raw number of group g means. A method's number has one added, 0 is NO_COMPU_METHOD
+
+-- numbers past every capacity read as these
+abbrev pub pastRecords : ℕ
+pastRecords = 65535
+
+abbrev pub lastEntry : ℕ
+lastEntry = 1024
+
+-- the cell where entry e begins
+abbrev pub entryCell : ℕ → ℕ
+entryCell e = baseIn sections entry + (1 + 4 * e)
+
+module _ (t : List ℕ) where
+  -- the text that verbal table s gives (numbers past every capacity read as the capacity)
+  unfoldable pub textAt : ℕ → ℤ → Value
+  textAt s raw =
+      verbalOf t (entryCell (min (tablesIn t .slots table s 0) lastEntry)) (min (tablesIn t .slots table s 1) lastEntry) (tablesIn t .slots table s 2) (tablesIn t .slots table s 3) raw
+
+  -- method m: "TAB_VERB: the entry with that number gives its text", the others a fraction
+  unfoldable pub meansBy : ℕ → ℤ → Value
+  meansBy m raw =
+      cond (isVerbal (tablesIn t .slots method m 0)) (textAt (tablesIn t .slots method m 9 - 1) raw)
+      (fractionOf (coefficients (tablesIn t) m) raw)
+
+  -- "IDENTICAL and NO_COMPU_METHOD are 1, 0, 0, 1."
+  unfoldable pub means : ℕ → ℤ → Value
+  means g raw = cond (eqb (methodOf (tablesIn t) g) 0) (fractionOf identicalOf raw) (meansBy (methodOf (tablesIn t) g - 1) raw)
+
+  -- ---- the element of group g with index i, in an image
+
+  unfoldable pub rawOf : List ℕ → ℕ → ℕ → ℤ
+  rawOf image g i =
+      rawAt (first (tablesIn t) g) (placeOf (tablesIn t) g i) (shapeOf (kind (tablesIn t) g)) (mask (tablesIn t) g) image
+
+  -- "A line holds raw, state (0 none, 1 number, 2 text), and the fraction's two numbers, or the text's first byte and the one past it, quotes included; zeros for none."
+  abbrev pub lineWith : ℤ → Physical → Line
+  lineWith raw p = record { raw = raw; state = p .state; first = p .first; second = p .second }
+
+  unfoldable pub lineOf : List ℕ → ℕ → ℕ → Line
+  lineOf image g i = lineWith (rawOf image g i) (held (means g (rawOf image g i)))
+
+-- ---- bytes in common
+
+-- the bytes from lo up to hi and so many bytes from p on have one in common
+unfoldable pub shares : ℕ → ℕ → ℕ → ℕ → Bool
+shares lo hi p many = ltb p hi && ltb lo (p + many)
+
+module _ (t : List ℕ) (lo hi : ℕ) where
+  -- element i of group g has one of the bytes from lo up to hi
+  unfoldable pub touched : ℕ → ℕ → Bool
+  touched g i = shares lo hi (placeOf (tablesIn t) g i) (bytes (tablesIn t) g)
+
+  -- the lines that are worked out afresh: all of them, or those of elements with one of the bytes
+  abbrev pub picked : Bool → ℕ → ℕ → Bool
+  picked all g i = all || touched g i

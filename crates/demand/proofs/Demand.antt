@@ -42,7 +42,8 @@ use Rattle.convert.specs.declared.fraction.Shown.the-variants as shown
 use Rattle.look.specs.declared.call.CallAnswer.{CallAnswer}
 use Rattle.look.specs.declared.call.CallAnswer.the-variants as call
 use Rattle.look.proofs.CheckLaws.{checked-tests}
-use Rattle.list.proofs.Writes.{never, same-given, mask-inside, accepted, wanted-fits, wanted-raw, by-answer, low, high, apart-line, past-line, past-made, Anew, write-step, start-anew, length-stored, bytes-stored, bits-stored, raw-stored, image-after, image-made, remade-again, room-remade, same-refused, refused-answer}
+use Rattle.list.proofs.Writer.{past-made, Anew, start-anew, image-made, remade-again, room-remade}
+use Rattle.list.proofs.Writes.{never, same-given, mask-inside, accepted, wanted-fits, wanted-raw, by-answer, low, high, apart-line, past-line, write-anew, length-stored, bytes-stored, bits-stored, raw-stored, image-after, same-refused, refused-answer}
 
 -- answers that say the same are the same
 same-answer : (r s : CallAnswer) → toldCall r ≡ toldCall s → r ≡ s
@@ -117,11 +118,9 @@ module _ (t : List ℕ) (n base : ℕ) where
           ∙ ap (λ (y : ℕ). checked t (lentBy n base k) (leb (total (tablesIn t)) y) (given (tt {0}))) (room-remade t k (enough e))
 
   -- ---- a run: what is kept stays the list made anew, over an image of the same length
-  run-anew : (k c : Kept) → Anew t n base k c → (qs : List Request) → Anew t n base k (running t n base c qs)
+  run-anew : (k c : Kept) → Anew t k c → (qs : List Request) → Anew t k (running t n base c qs)
   run-anew k c a [] = a
-  run-anew k c a (q ∷ qs) =
-      run-anew k (writing t n base c q .left)
-      (subst (λ (y : Kept). Anew t n base k (writing t n base y q .left)) (sym (a .anew)) (write-step t n base k (a .image) (a .long) q)) qs
+  run-anew k c a (q ∷ qs) = run-anew k (writing t n base c q .left) (write-anew t n base k c a q) qs
 
   -- THE KEPT LIST IS THE LIST MADE ANEW. A list was made over any lent columns, and then any requests were carried out or refused: what is kept is
   -- what making a list over the same lent columns from the image as it then is leaves.
@@ -129,7 +128,7 @@ module _ (t : List ℕ) (n base : ℕ) where
       → running t n base (making t n base k .left) qs ≡ making t n base (withImage (running t n base (making t n base k .left) qs .image) k) .left
   kept-equals-made-anew k qs h =
       let c = running t n base (making t n base k .left) qs in
-      let s : Anew t n base k (making t n base k .left) = subst (λ (y : After). Anew t n base k (y .left)) (sym (accepted-making k h)) (start-anew t n base k) in
+      let s : Anew t k (making t n base k .left) = subst (λ (y : After). Anew t k (y .left)) (sym (accepted-making k h)) (start-anew t k) in
       let a = run-anew k (making t n base k .left) s qs in
       let i : c .image ≡ a .image = ap (λ (y : Kept). y .image) (a .anew) ∙ image-made t (withImage (a .image) k) in
       let m = accepted-making (withImage (a .image) k) (same-length-making k (a .image) (a .long) h) in
@@ -140,7 +139,7 @@ module _ (t : List ℕ) (n base : ℕ) where
       → making t n base (running t n base (making t n base k .left) qs) ≡ record { answer = given (tt {0}); left = running t n base (making t n base k .left) qs }
   made-anew-in-place k qs h =
       let c = running t n base (making t n base k .left) qs in
-      let s : Anew t n base k (making t n base k .left) = subst (λ (y : After). Anew t n base k (y .left)) (sym (accepted-making k h)) (start-anew t n base k) in
+      let s : Anew t k (making t n base k .left) = subst (λ (y : After). Anew t k (y .left)) (sym (accepted-making k h)) (start-anew t k) in
       let a = run-anew k (making t n base k .left) s qs in
       subst (λ (y : Kept). making t n base y ≡ record { answer = given (tt {0}); left = y }) (sym (a .anew)) (again k (a .image) (a .long) h)
     where

@@ -5,4 +5,5 @@ pub mod StandLaws
 pub mod WantedLaws
 pub mod ApartLaws
 pub mod CallLaws
+pub mod Writer
 pub mod Writes

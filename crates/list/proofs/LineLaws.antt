@@ -157,10 +157,6 @@ module _ {A : Type 0} where
       getD-over a l (sumBelow g c + i) d (rw length-lines (omega (arith, sum-in c g n p)))
       ∙ lines-at (λ g i k. w g i) c n g i d p q ∙ h g i p q e)))
 
-  pub made-made : (w : ℕ → ℕ → A) (c : ℕ → ℕ) (n : ℕ) (l : List A) → made w c n (made w c n l) ≡ made w c n l
-  unfolding made
-  made-made w c n l = over-over (lines (λ g i k. w g i) c n) (lines (λ g i k. w g i) c n) l refl
-
   -- every line picked: the column made anew, whatever it held
   pub fresh-all : (s : ℕ → ℕ → Bool) (w : ℕ → ℕ → A) (d : A) (c : ℕ → ℕ) (n : ℕ) (l : List A)
       → ((g i : ℕ) → g < n → i < c g → s g i ≡ true) → fresh s w d c n l ≡ made w c n l
@@ -179,18 +175,10 @@ module _ {A : Type 0} where
   unfolding fresh
   fresh-past s w d c n l j h = getD-over-past (lines (keep s w d l) c n) l j d (rw length-lines h)
 
-  pub made-past : (w : ℕ → ℕ → A) (d : A) (c : ℕ → ℕ) (n : ℕ) (l : List A) (j : ℕ) → sumBelow n c ≤ j → getD (made w c n l) j d ≡ getD l j d
-  unfolding made
-  made-past w d c n l j h = getD-over-past (lines (λ g i k. w g i) c n) l j d (rw length-lines h)
-
   pub length-fresh : (s : ℕ → ℕ → Bool) (w : ℕ → ℕ → A) (d : A) (c : ℕ → ℕ) (n : ℕ) (l : List A) → sumBelow n c ≤ length l
       → length (fresh s w d c n l) ≡ length l
   unfolding fresh
   length-fresh s w d c n l h = length-over _ l (rw length-lines h)
-
-  pub length-made : (w : ℕ → ℕ → A) (c : ℕ → ℕ) (n : ℕ) (l : List A) → sumBelow n c ≤ length l → length (made w c n l) ≡ length l
-  unfolding made
-  length-made w c n l h = length-over _ l (rw length-lines h)
 
   -- ---- the store of one line
   pub line-kept : (b : Bool) (l : List A) (k : ℕ) (x d : A) → b ≡ false → l ≡ set l k (cond b x (getD l k d))

@@ -1,26 +1,24 @@
--- What an accepted write keeps and changes: the lemmas behind the demand's theorems.
+-- What an accepted write of an element keeps and changes: the lemmas behind the demand's theorems.
 use mathlib.Core.Path.{_≡_, refl, sym, ap, _∙_, subst}
 use mathlib.Core.List.{List}
 use mathlib.Core.Bool.{Bool, true, false, cond, not, _&&_, _||_}
-use mathlib.Core.Logic.{_⊎_, inl, inr}
+use mathlib.Core.Logic.{_⊎_}
 use Prim.Native.Nat.{ℕ, zero, suc, _+_, _%_, _^_, _≤_, _<_}
 use native.Mathlib.Nat.{pow-suc}
 use native.Mathlib.Omega.{arith}
-use borrow.Author.Tests.{ltb-true, ltb-false, eqb-true}
+use borrow.Author.Tests.{ltb-true, eqb-true}
 use lib.Bits.{bitAnd}
 use lib.Dec.{ltb, leb, eqb}
-use lib.IntN.{ℤ, pos}
+use lib.IntN.{ℤ}
 use lib.ListN.{length, getD}
 use Rattle.number.specs.Answer.{Answer, given, refused}
 use Rattle.cell.specs.Kind.{shapeOf}
 use Rattle.cell.specs.Mask.{maskRule, outside}
 use Rattle.cell.specs.Raw.{fitsRaw}
 use Rattle.cell.specs.Bytes.{storedAt}
-use Rattle.cell.proofs.Laws.{apart-kept}
 use Rattle.cell.proofs.Shapes.{bytes-le}
 use Rattle.cell.proofs.Laws as cell-laws
 use Rattle.convert.specs.Asked.{askedRaw}
-use Rattle.convert.specs.Told.{held}
 use Rattle.convert.proofs.Laws.{asked-stores}
 use Rattle.tables.specs.Form.{object, group, Tables, tablesIn, kind, first, mask, walk, x, y, counter, methodOf, limit}
 use Rattle.tables.specs.Group.{sumBelow, elements, bytes, placeOf}
@@ -28,12 +26,11 @@ use Rattle.tables.specs.Rule.{isType, noPart, pointsRule, counterRule, axisRule
 use Rattle.tables.specs.Sizes.{sizesFit}
 use Rattle.tables.proofs.All.{left, right, three, five, six, all-at}
 use Rattle.tables.proofs.Reading.{rule-facts, groups-are}
-use Rattle.look.specs.declared.element.Line.{Line}
-use Rattle.look.specs.Element.{means, rawOf, lineWith, lineOf, shares, touched}
-use Rattle.look.specs.Calls.{Lent, lentBy, isElement, standingNo, Kept, room, groups, hasRoom, remade, refreshed, After, afterwards, Wanted, rawNumber, physicalText, Request, groupIn, asksBy, isTabVerb, wantedRaw, judged, stored, writtenTo, writing, lineAt, withImage}
-use Rattle.list.proofs.LineLaws.{fresh-made, fresh-else, fresh-past, made-past, made-made, length-made}
+use Rattle.look.specs.Element.{rawOf, touched}
+use Rattle.look.specs.Calls.{Lent, lentBy, isElement, standingNo, Kept, groups, hasRoom, remade, refreshed, After, afterwards, Wanted, rawNumber, physicalText, Request, groupIn, asksBy, isTabVerb, wantedRaw, judged, stored, writtenTo, writing, lineAt, withImage}
 use Rattle.look.proofs.CheckLaws.{checked-tests, named}
 use Rattle.list.proofs.StandLaws.{Stands, standing-refused, standing-passed, stands-so}
+use Rattle.list.proofs.Writer.{SameOutside, writer-remade, line-kept, rest-kept, Anew, writer-anew}
 
 pub never : {A : Type 0} (n : ℕ) (a : A) → refused n ≡ given a → ⊥
 never n a e = let z : _≡_ {A = ℕ} 0 1 = cc in omega arith
@@ -181,29 +178,13 @@ pub refused-answer : (t : List ℕ) (n base : ℕ) (k : Kept) (q : Request) (c :
 refused-answer t n base k q c h =
     by-answer t n base k q (λ (a : After). a .answer ≡ refused c) (λ d e. ap (λ (m : ℕ). refused m) (sym (same-refused c d (sym h ∙ e)))) (λ z e. absurd (never c z (sym h ∙ e)))
 
--- ---- an element that shares no byte with the one written has the line that it had
-apart : (lo hi p w : ℕ) → shares lo hi p w ≡ false → (p + w ≤ lo) ⊎ (hi ≤ p)
-unfolding shares
-apart lo hi p w = go (ltb p hi) refl
-  where
-    go : (b : Bool) → ltb p hi ≡ b → b && ltb lo (p + w) ≡ false → (p + w ≤ lo) ⊎ (hi ≤ p)
-    go true e h = inl (ltb-false lo (p + w) h)
-    go false e h = inr (ltb-false p hi e)
-
+-- ---- an element's bytes, and the image with a raw number stored in them
 module _ (t : List ℕ) (g i : ℕ) where
   abbrev pub low : ℕ
   low = placeOf (tablesIn t) g i
 
   abbrev pub high : ℕ
   high = placeOf (tablesIn t) g i + bytes (tablesIn t) g
-
-  pub line-same : (image : List ℕ) (z : ℤ) (h j : ℕ) → touched t low high h j ≡ false → lineOf t image h j ≡ lineOf t (stored t g i image z) h j
-  unfolding touched stored lineOf rawOf
-  line-same image z h j e =
-      let T = tablesIn t in
-      ap (λ (v : ℤ). lineWith t v (held (means t h v)))
-      (sym (apart-kept (first T h) (placeOf T h j) (shapeOf (kind T h)) (mask T h) (first T g) (placeOf T g i) (shapeOf (kind T g)) (mask T g) z image
-      (apart low high (placeOf T h j) (bytes T h) e)))
 
   pub length-stored : (image : List ℕ) (z : ℤ) → length (stored t g i image z) ≡ length image
   unfolding stored
@@ -228,94 +209,29 @@ module _ (t : List ℕ) (g i : ℕ) where
   unfolding writtenTo refreshed
   image-after k z = refl
 
+  -- ---- an element's write is one that changes the element's bytes and no other
+  pub element-outside : (image : List ℕ) (z : ℤ) → SameOutside image (stored t g i image z) low high
+  element-outside image z = record { long = sym (length-stored image z); else = λ j o. sym (bytes-stored image z j o) }
+
   -- a list that is made anew is made anew after the write
   pub write-remade : (k : Kept) (z : ℤ) → writtenTo t g i (remade t k) z ≡ remade t (withImage (stored t g i (k .image) z) k)
-  unfolding writtenTo refreshed remade
-  write-remade k z =
-      let I = stored t g i (k .image) z in
-      λ v. record {
-        image = I;
-        raw = fresh-made (touched t low high) (λ g i. lineOf t (k .image) g i .raw) (λ g i. lineOf t I g i .raw) (pos 0) (elements (tablesIn t)) (groups t) (k .raw) (λ h j a b e. ap (λ (y : Line). y .raw) (line-same (k .image) z h j e)) v;
-        state = fresh-made (touched t low high) (λ g i. lineOf t (k .image) g i .state) (λ g i. lineOf t I g i .state) 0 (elements (tablesIn t)) (groups t) (k .state) (λ h j a b e. ap (λ (y : Line). y .state) (line-same (k .image) z h j e)) v;
-        first = fresh-made (touched t low high) (λ g i. lineOf t (k .image) g i .first) (λ g i. lineOf t I g i .first) (pos 0) (elements (tablesIn t)) (groups t) (k .first) (λ h j a b e. ap (λ (y : Line). y .first) (line-same (k .image) z h j e)) v;
-        second = fresh-made (touched t low high) (λ g i. lineOf t (k .image) g i .second) (λ g i. lineOf t I g i .second) (pos 0) (elements (tablesIn t)) (groups t) (k .second) (λ h j a b e. ap (λ (y : Line). y .second) (line-same (k .image) z h j e)) v;
-      }
+  unfolding writtenTo remade
+  write-remade k z = writer-remade t (k .image) (stored t g i (k .image) z) low high (element-outside (k .image) z) k
 
   -- a line whose element shares no byte, and what stands past the lines, stay
   pub apart-line : (k : Kept) (z : ℤ) (h j : ℕ) → h < groups t → j < elements (tablesIn t) h → touched t low high h j ≡ false
       → lineAt (writtenTo t g i k z) (sumBelow h (elements (tablesIn t)) + j) ≡ lineAt k (sumBelow h (elements (tablesIn t)) + j)
-  unfolding writtenTo refreshed
-  apart-line k z h j a b e =
-      let I = stored t g i (k .image) z in
-      λ v. record {
-        raw = fresh-else (touched t low high) (λ g i. lineOf t I g i .raw) (pos 0) (elements (tablesIn t)) (groups t) (k .raw) h j a b e v;
-        state = fresh-else (touched t low high) (λ g i. lineOf t I g i .state) 0 (elements (tablesIn t)) (groups t) (k .state) h j a b e v;
-        first = fresh-else (touched t low high) (λ g i. lineOf t I g i .first) (pos 0) (elements (tablesIn t)) (groups t) (k .first) h j a b e v;
-        second = fresh-else (touched t low high) (λ g i. lineOf t I g i .second) (pos 0) (elements (tablesIn t)) (groups t) (k .second) h j a b e v;
-      }
+  unfolding writtenTo
+  apart-line k z = line-kept (touched t low high) t (stored t g i (k .image) z) k
 
   pub past-line : (k : Kept) (z : ℤ) (j : ℕ) → sumBelow (groups t) (elements (tablesIn t)) ≤ j → lineAt (writtenTo t g i k z) j ≡ lineAt k j
-  unfolding writtenTo refreshed
-  past-line k z j a =
-      let I = stored t g i (k .image) z in
-      λ v. record {
-        raw = fresh-past (touched t low high) (λ g i. lineOf t I g i .raw) (pos 0) (elements (tablesIn t)) (groups t) (k .raw) j a v;
-        state = fresh-past (touched t low high) (λ g i. lineOf t I g i .state) 0 (elements (tablesIn t)) (groups t) (k .state) j a v;
-        first = fresh-past (touched t low high) (λ g i. lineOf t I g i .first) (pos 0) (elements (tablesIn t)) (groups t) (k .first) j a v;
-        second = fresh-past (touched t low high) (λ g i. lineOf t I g i .second) (pos 0) (elements (tablesIn t)) (groups t) (k .second) j a v;
-      }
+  unfolding writtenTo
+  past-line k z = rest-kept (touched t low high) t (stored t g i (k .image) z) k
 
--- what stands past the lines of a list made anew stays
-pub past-made : (t : List ℕ) (k : Kept) (j : ℕ) → sumBelow (groups t) (elements (tablesIn t)) ≤ j → lineAt (remade t k) j ≡ lineAt k j
-unfolding remade
-past-made t k j a = λ v. record {
-  raw = made-past (λ g i. lineOf t (k .image) g i .raw) (pos 0) (elements (tablesIn t)) (groups t) (k .raw) j a v;
-  state = made-past (λ g i. lineOf t (k .image) g i .state) 0 (elements (tablesIn t)) (groups t) (k .state) j a v;
-  first = made-past (λ g i. lineOf t (k .image) g i .first) (pos 0) (elements (tablesIn t)) (groups t) (k .first) j a v;
-  second = made-past (λ g i. lineOf t (k .image) g i .second) (pos 0) (elements (tablesIn t)) (groups t) (k .second) j a v;
-}
-
-pub image-made : (t : List ℕ) (k : Kept) → remade t k .image ≡ k .image
-unfolding remade
-image-made t k = refl
-
--- a list made anew from an image is the list made anew over what is kept of it
-pub remade-again : (t image : List ℕ) (k : Kept) → remade t (remade t (withImage image k)) ≡ remade t (withImage image k)
-unfolding remade
-remade-again t image k = λ v. record {
-  image = image;
-  raw = made-made (λ g i. lineOf t image g i .raw) (elements (tablesIn t)) (groups t) (k .raw) v;
-  state = made-made (λ g i. lineOf t image g i .state) (elements (tablesIn t)) (groups t) (k .state) v;
-  first = made-made (λ g i. lineOf t image g i .first) (elements (tablesIn t)) (groups t) (k .first) v;
-  second = made-made (λ g i. lineOf t image g i .second) (elements (tablesIn t)) (groups t) (k .second) v;
-}
-
--- and it has as much room
-pub room-remade : (t : List ℕ) (k : Kept) → sumBelow (groups t) (elements (tablesIn t)) ≤ room k → room (remade t k) ≡ room k
-unfolding remade
-room-remade t k h =
-    let a = length-made (λ g i. lineOf t (k .image) g i .raw) (elements (tablesIn t)) (groups t) (k .raw) (omega arith) in
-    let b = length-made (λ g i. lineOf t (k .image) g i .state) (elements (tablesIn t)) (groups t) (k .state) (omega arith) in
-    let c = length-made (λ g i. lineOf t (k .image) g i .first) (elements (tablesIn t)) (groups t) (k .first) (omega arith) in
-    let d = length-made (λ g i. lineOf t (k .image) g i .second) (elements (tablesIn t)) (groups t) (k .second) (omega arith) in
-    rw (a, b, c, d)
-
--- ---- a run: what is kept stays the list made anew, over an image of the same length
-module _ (t : List ℕ) (n base : ℕ) (k : Kept) where
-  pub record Anew (c : Kept) : Type 0 where
-    pub image : List ℕ
-    pub long : length image ≡ length (k .image)
-    pub anew : c ≡ remade t (withImage image k)
-
-  pub write-step : (image : List ℕ) → length image ≡ length (k .image) → (q : Request) → Anew (writing t n base (remade t (withImage image k)) q .left)
-  write-step image l q =
-      by-answer t n base (remade t (withImage image k)) q (λ (a : After). Anew (a .left))
-      (λ c e. record { image = image; long = l; anew = refl })
-      (λ z e. record {
-        image = stored t (groupIn q) (q .index) image z;
-        long = length-stored t (groupIn q) (q .index) image z ∙ l;
-        anew = write-remade t (groupIn q) (q .index) (withImage image k) z;
-      })
-
-  pub start-anew : Anew (remade t k)
-  start-anew = record { image = k .image; long = refl; anew = refl }
+-- what is kept stays the list made anew, whether the request is refused or carried out
+pub write-anew : (t : List ℕ) (n base : ℕ) (k c : Kept) → Anew t k c → (q : Request) → Anew t k (writing t n base c q .left)
+unfolding writtenTo
+write-anew t n base k c a q =
+    by-answer t n base c q (λ (y : After). Anew t k (y .left)) (λ d e. a)
+    (λ z e. writer-anew t k c a (stored t (groupIn q) (q .index) (c .image) z) (low t (groupIn q) (q .index)) (high t (groupIn q) (q .index))
+    (element-outside t (groupIn q) (q .index) (c .image) z))

@@ -28,7 +28,8 @@ use Rattle.tables.specs.Sizes.{sizesFit}
 use Rattle.text.proofs.Within.{and-right}
 use Rattle.tables.proofs.Reading.{element-inside, total-is}
 use Rattle.look.specs.Element.{rawOf, touched}
-use Rattle.look.specs.Calls.{refusalOf, Lent, lentOf, lentBy, checked, searched, Reading, readingOf, reading, Kept, room, groups, hasRoom, remade, After, afterwards, making, rawNumber, Request, request, groupIn, judged, writing, lineAt, withImage}
+use Rattle.look.specs.Calls.{Lent, lentOf, lentBy, checked, searched, Reading, readingOf, reading, Kept, room, groups, hasRoom, remade, After, afterwards, making, rawNumber, Request, request, groupIn, judged, writing, lineAt, withImage}
+use Rattle.look.specs.Steps.{refusalOf}
 use Rattle.demand.specs.Runs.{running}
 use Rattle.look.specs.Told.{toldSearch, toldRead, toldCall, after}
 use Rattle.look.specs.declared.search.SearchAnswer.{SearchAnswer}

@@ -15,7 +15,8 @@ use Rattle.tables.specs.Group.{elements, placeOf, position, storageOf, placeBy}
 use Rattle.tables.specs.declared.group.Storage.{Storage}
 use Rattle.tables.proofs.Addressing.{position-below}
 use Rattle.tables.proofs.All.{left, right, three}
-use Rattle.look.specs.Element.{shares, touched, picked}
+use Rattle.look.specs.Element.{shares, touched}
+use Rattle.look.specs.Steps.{picked}
 
 -- ---- one element
 pub touch-by : (s : Storage) (lo hi i p w : ℕ) (b : Bool) → p ≡ placeBy s i → w ≡ shapeOf (s .kind) .bytes → b ≡ shares lo hi p w → b ≡ shares lo hi (placeBy s i) (shapeOf (s .kind) .bytes)

@@ -14,8 +14,9 @@ use Rattle.convert.specs.declared.asked.RawAnswer.{RawAnswer}
 use Rattle.convert.specs.declared.asked.RawAnswer.the-variants as wanted
 use Rattle.tables.specs.Form.{tablesIn, total, kind, first, mask}
 use Rattle.tables.specs.Group.{groupOf, sumBelow, elements, bytes, placeOf}
-use Rattle.look.specs.Element.{pastRecords, picked}
-use Rattle.look.specs.Calls.{checked, checkedNo, standing, standingNo, judged, Kept, kept, room, hasRoom, groups, remade, refreshed, After, afterwards, lentBy, making, Wanted, request, wantedRaw, stored, writtenTo, writing}
+use Rattle.look.specs.Element.{pastRecords}
+use Rattle.look.specs.Calls.{checked, standing, judged, Kept, kept, room, hasRoom, groups, remade, refreshed, After, afterwards, lentBy, making, Wanted, request, wantedRaw, stored, writtenTo, writing}
+use Rattle.look.specs.Steps.{picked, checkedNo, standingNo}
 use Rattle.look.specs.Told.{after}
 use Rattle.look.specs.declared.call.CallAnswer.the-variants as call
 use Rattle.look.proofs.CheckLaws.{checked-refused, checked-passed, group-is}

@@ -15,7 +15,8 @@ use Rattle.tables.specs.Group.{sumBelow, elements}
 use Rattle.look.specs.declared.element.Line.{Line}
 use Rattle.look.specs.Lines.{over, keep, fresh}
 use Rattle.look.specs.Element.{lineOf}
-use Rattle.look.specs.Calls.{Kept, kept, room, groups, putLine, putLines, remade, refreshed}
+use Rattle.look.specs.Calls.{Kept, kept, room, groups, remade, refreshed}
+use Rattle.look.specs.Steps.{putLine, putLines}
 use Rattle.list.proofs.LineLaws.{sum-more, sum-in, over-none, upto, upto-none, upto-next, upto-all, turn, length-at, line-kept, line-fresh, fresh-all}
 
 -- ---- one column

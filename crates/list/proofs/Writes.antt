@@ -27,7 +27,8 @@ use Rattle.tables.specs.Sizes.{sizesFit}
 use Rattle.tables.proofs.All.{left, right, three, five, six, all-at}
 use Rattle.tables.proofs.Reading.{rule-facts, groups-are}
 use Rattle.look.specs.Element.{rawOf, touched}
-use Rattle.look.specs.Calls.{Lent, lentBy, isElement, standingNo, Kept, groups, hasRoom, remade, refreshed, After, afterwards, Wanted, rawNumber, physicalText, Request, groupIn, asksBy, isTabVerb, wantedRaw, judged, stored, writtenTo, writing, lineAt, withImage}
+use Rattle.look.specs.Calls.{Lent, lentBy, isElement, Kept, groups, hasRoom, remade, refreshed, After, afterwards, Wanted, rawNumber, physicalText, Request, groupIn, asksBy, isTabVerb, wantedRaw, judged, stored, writtenTo, writing, lineAt, withImage}
+use Rattle.look.specs.Steps.{standingNo}
 use Rattle.look.proofs.CheckLaws.{checked-tests, named}
 use Rattle.list.proofs.StandLaws.{Stands, standing-refused, standing-passed, stands-so}
 use Rattle.list.proofs.Writer.{SameOutside, writer-remade, line-kept, rest-kept, Anew, writer-anew}

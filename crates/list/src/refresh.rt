@@ -17,8 +17,9 @@ ghost use lib.ListN.{set};
 ghost use Rattle.cell.specs.Kind.{shapeOf};
 ghost use Rattle.tables.specs.Form.{tablesIn};
 ghost use Rattle.tables.specs.Group.{sumBelow, elements, storageOf, placeBy};
-ghost use Rattle.look.specs.Element.{lineOf, shares, picked};
-ghost use Rattle.look.specs.Calls.{kept, room, groups, putLine, putLines, meaningOf, refreshed};
+ghost use Rattle.look.specs.Element.{lineOf, shares};
+ghost use Rattle.look.specs.Calls.{kept, room, groups, refreshed};
+ghost use Rattle.look.specs.Steps.{picked, putLine, putLines, meaningOf};
 
 // Stores a number in a column; nothing past its end.
 fn put(column: &mut [i64], k: usize, v: i64)

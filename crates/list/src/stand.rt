@@ -14,7 +14,8 @@ use tables::group::is_forbidden;
 use tables::group::place_of;
 ghost use mathlib.Core.Path.{_≡_};
 ghost use Prim.Native.Nat.{_+_};
-ghost use Rattle.look.specs.Calls.{lentOf, isCounted, onCount, freeNo, standingNo};
+ghost use Rattle.look.specs.Calls.{lentOf, isCounted, onCount};
+ghost use Rattle.look.specs.Steps.{freeNo, standingNo};
 
 // Refusals: writing forbidden, the element shares a byte with a stored count.
 pub const FORBIDDEN: u8 = 21;

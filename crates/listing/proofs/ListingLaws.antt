@@ -28,7 +28,8 @@ use Rattle.tables.proofs.LoopLaws.{sum-on, sum-small}
 use Rattle.tables.proofs.Reading.{total-is, total-most}
 use Rattle.look.specs.Element.{pastRecords}
 use Rattle.look.proofs.CheckLaws.{checked-refused, checked-tests, checked-passed, group-is}
-use Rattle.look.specs.Calls.{isElement, Kept, kept, lentOf, lentBy, unless, checked, checkedNo, hasRoom, room}
+use Rattle.look.specs.Calls.{isElement, Kept, kept, lentOf, lentBy, unless, checked, hasRoom, room}
+use Rattle.look.specs.Steps.{checkedNo}
 use Rattle.print.specs.Print.{slice}
 use Rattle.print.specs.Put.{put, Put}
 use Rattle.print.proofs.PutLaws.{put-none, put-then, length-put}

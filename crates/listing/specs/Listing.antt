@@ -8,7 +8,8 @@ use lib.ListN.{length, getD, drop}
 use Rattle.number.specs.Answer.{Answer, given, refused}
 use Rattle.tables.specs.Form.{object, group, tablesIn}
 use Rattle.tables.specs.Group.{groupOf, elements, sumBelow, lineOf}
-use Rattle.look.specs.Calls.{Kept, checked, checkedNo, hasRoom, lentBy, unless, isElement}
+use Rattle.look.specs.Calls.{Kept, checked, hasRoom, lentBy, unless, isElement}
+use Rattle.look.specs.Steps.{checkedNo}
 use Rattle.print.specs.Print.{slice}
 use Rattle.listing.specs.declared.listing.ListingAnswer.{ListingAnswer}
 use Rattle.listing.specs.declared.listing.ListingAnswer.the-variants.{Written, Refused}

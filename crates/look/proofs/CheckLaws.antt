@@ -22,7 +22,8 @@ use Rattle.tables.specs.Group.{groupOf, elements}
 use Rattle.tables.specs.Rule.{keepsRule}
 use Rattle.tables.specs.Sizes.{sizesFit}
 use Rattle.look.specs.Element.{pastRecords, means, rawOf}
-use Rattle.look.specs.Calls.{Lent, lentOf, refusalOf, checked, checkedNo, isElement, readingOf, reading}
+use Rattle.look.specs.Calls.{Lent, lentOf, checked, isElement, readingOf, reading}
+use Rattle.look.specs.Steps.{refusalOf, checkedNo}
 use Rattle.look.specs.Told.{toldRead}
 use Rattle.look.specs.declared.read.ReadAnswer.{ReadAnswer}
 use Rattle.look.specs.declared.read.ReadAnswer.the-variants as read

@@ -16,7 +16,8 @@ use Rattle.tables.specs.Form.{method, tablesIn, methodOf}
 use Rattle.tables.specs.Group.{placeOf, storageOf, placeBy}
 use Rattle.tables.specs.declared.group.Storage.{Storage}
 use Rattle.look.specs.Element.{pastRecords, textAt, meansBy, means, rawOf, lineWith, lineOf}
-use Rattle.look.specs.Calls.{asksBy, isTabVerb, meaningOf}
+use Rattle.look.specs.Calls.{asksBy, isTabVerb}
+use Rattle.look.specs.Steps.{meaningOf}
 use Rattle.look.specs.declared.element.Line.{Line}
 use Rattle.look.specs.declared.meaning.Meaning.{Meaning}
 use Rattle.look.proofs.ElementLaws.{method-slot, near-text, line-is}

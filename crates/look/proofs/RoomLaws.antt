@@ -13,7 +13,8 @@ use Rattle.tables.specs.Form.{tablesIn, total}
 use Rattle.tables.specs.Group.{sumBelow, elements}
 use Rattle.tables.specs.Sizes.{sizesFit}
 use Rattle.tables.proofs.Reading.{total-is}
-use Rattle.look.specs.Calls.{Lent, checkedNo, groups}
+use Rattle.look.specs.Calls.{Lent, groups}
+use Rattle.look.specs.Steps.{checkedNo}
 use Rattle.look.proofs.CheckLaws.{checked-tests}
 
 -- whether the lines are enough

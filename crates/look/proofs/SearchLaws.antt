@@ -13,7 +13,8 @@ use Rattle.text.specs.Bytes.{byte, sameFor, samePart}
 use Rattle.text.proofs.ByteLaws.{SameFrom, same-start, same-on, same-differs, same-all}
 use Rattle.text.proofs.Within.{and-left, and-right}
 use Rattle.tables.specs.Form.{object, Tables, tablesIn}
-use Rattle.look.specs.Calls.{Lent, checkedNo, searchFrom, searched}
+use Rattle.look.specs.Calls.{Lent, searchFrom, searched}
+use Rattle.look.specs.Steps.{checkedNo}
 use Rattle.look.proofs.CheckLaws.{checked-refused, checked-passed}
 
 module _ (from to n : ℕ) where

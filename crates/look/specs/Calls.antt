@@ -4,7 +4,7 @@ use mathlib.Core.List.{List}
 use mathlib.Core.Bool.{Bool, true, false, cond, not, _&&_, _||_}
 use lib.Dec.{ltb, leb, eqb}
 use lib.IntN.{ℤ, pos}
-use lib.ListN.{length, getD, set}
+use lib.ListN.{length, getD}
 use Rattle.number.specs.Answer.{Answer, given, refused}
 use Rattle.cell.specs.Kind.{shapeOf}
 use Rattle.cell.specs.Raw.{fitsRaw, written}
@@ -20,9 +20,8 @@ use Rattle.tables.specs.Group.{groupOf, elements, bytes, placeOf}
 use Rattle.tables.specs.Rule.{isVerbal, keepsRule}
 use Rattle.tables.specs.Sizes.{sizesFit}
 use Rattle.look.specs.declared.element.Line.{Line}
-use Rattle.look.specs.declared.meaning.Meaning.{Meaning}
 use Rattle.look.specs.Lines.{made, fresh}
-use Rattle.look.specs.Element.{pastRecords, means, rawOf, lineOf, shares, touched}
+use Rattle.look.specs.Element.{means, rawOf, lineOf, shares, touched}
 
 -- a length of description, a length of image, a base address: what a call lends beside the tables
 pub record Lent : Type 0 where
@@ -33,11 +32,6 @@ pub record Lent : Type 0 where
 abbrev pub lentOf : ℕ → ℕ → ℕ → Lent
 lentOf n m base = record { text = n; image = m; base = base }
 
--- the number of a refusal, 0 for none
-abbrev pub refusalOf : {A : Type 0} → Answer A → ℕ
-refusalOf (given a) = 0
-refusalOf (refused k) = k
-
 -- the refusal k where a test fails, and else the answer
 abbrev pub unless : {A : Type 0} → Bool → ℕ → Answer A → Answer A
 unless good k a = cond good a (refused k)
@@ -46,9 +40,6 @@ unless good k a = cond good a (refused k)
 unfoldable pub checked : {A : Type 0} → List ℕ → Lent → Bool → Answer A → Answer A
 checked t l enough a =
     unless (sizesFit (l .text) (l .image) (l .base) (length t) && enough) 20 (unless (keepsRule (l .text) (l .image) t) 22 a)
-
-abbrev pub checkedNo : List ℕ → Lent → Bool → ℕ
-checkedNo t l enough = refusalOf (checked t l enough (given (tt {0})))
 
 -- "14: no such element": object number, part (x 0, y 1, v 2) and index
 unfoldable pub isElement : Tables → ℕ → ℕ → ℕ → Bool
@@ -122,21 +113,6 @@ refreshed s t img k = record {
   second = fresh s (λ g i. lineOf t img g i .second) (pos 0) (elements (tablesIn t)) (groups t) (k .second);
 }
 
--- line k worked out afresh as l where p says so
-abbrev pub putLine : Bool → ℕ → Line → Kept → Kept
-putLine p k l c = record {
-  image = c .image;
-  raw = set (c .raw) k (cond p (l .raw) (getD (c .raw) k (pos 0)));
-  state = set (c .state) k (cond p (l .state) (getD (c .state) k 0));
-  first = set (c .first) k (cond p (l .first) (getD (c .first) k (pos 0)));
-  second = set (c .second) k (cond p (l .second) (getD (c .second) k (pos 0)));
-}
-
--- the first so many lines of group g, which begin at line k, worked out afresh where s says so
-abbrev pub putLines : (ℕ → ℕ → Bool) → List ℕ → List ℕ → ℕ → ℕ → ℕ → Kept → Kept
-putLines s t img g k zero c = c
-putLines s t img g k (suc i) c = putLine (s g i) (k + i) (lineOf t img g i) (putLines s t img g k i c)
-
 -- what a call answers, and what is kept after it: "No refusal touches image or list."
 pub record After : Type 0 where
   pub answer : Answer (Unit {0})
@@ -194,14 +170,6 @@ asksBy T g = cond (eqb (methodOf T g) 0) identicalOf (coefficients T (methodOf T
 unfoldable pub isTabVerb : Tables → ℕ → Bool
 isTabVerb T g = not (eqb (methodOf T g) 0) && isVerbal (T .slots method (methodOf T g - 1) 0)
 
--- what group g's raw numbers mean by: its verbal table and that table's number, or its coefficients
-abbrev pub meaningOf : List ℕ → ℕ → Meaning
-meaningOf t g = record {
-  verbal = isTabVerb (tablesIn t) g;
-  table = min (tablesIn t .slots method (methodOf (tablesIn t) g - 1) 9 - 1) pastRecords;
-  k = asksBy (tablesIn t) g;
-}
-
 -- "Raw writes test type and mask, no limits." "15 .. physical write under TAB_VERB"
 abbrev pub wantedRaw : Tables → ℕ → Wanted → Answer ℤ
 wantedRaw T g (rawNumber z) = unless (fitsRaw (shapeOf (kind T g)) (mask T g) z) 18 (given z)
@@ -216,12 +184,6 @@ free t g i a =
 -- "Write order: 20, 22, 14, 21, 19, ..": what is judged of the element, whatever is asked of it
 unfoldable pub standing : {A : Type 0} → List ℕ → Lent → Bool → ℕ → ℕ → ℕ → Answer A → Answer A
 standing t l enough o p i a = checked t l enough (unless (isElement (tablesIn t) o p i) 14 (free t (groupOf o p) i a))
-
-abbrev pub freeNo : List ℕ → ℕ → ℕ → ℕ
-freeNo t g i = refusalOf (free t g i (given (tt {0})))
-
-abbrev pub standingNo : List ℕ → Lent → Bool → ℕ → ℕ → ℕ → ℕ
-standingNo t l enough o p i = refusalOf (standing t l enough o p i (given (tt {0})))
 
 -- "Write order: .. 15, 16, 17, 18.": the raw number that a request stores. No byte of the image is looked at.
 unfoldable pub judged : List ℕ → Lent → Bool → Request → Answer ℤ

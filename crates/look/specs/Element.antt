@@ -1,7 +1,7 @@
 -- One element: its raw number, what it means, its line.
 use Prim.Native.Nat.{ℕ, _+_, _-_, _*_, min}
 use mathlib.Core.List.{List}
-use mathlib.Core.Bool.{Bool, cond, _&&_, _||_}
+use mathlib.Core.Bool.{Bool, cond, _&&_}
 use lib.Dec.{ltb, eqb}
 use lib.IntN.{ℤ}
 use Rattle.cell.specs.Kind.{shapeOf}
@@ -69,7 +69,3 @@ module _ (t : List ℕ) (lo hi : ℕ) where
   -- element i of group g has one of the bytes from lo up to hi
   unfoldable pub touched : ℕ → ℕ → Bool
   touched g i = shares lo hi (placeOf (tablesIn t) g i) (bytes (tablesIn t) g)
-
-  -- the lines that are worked out afresh: all of them, or those of elements with one of the bytes
-  abbrev pub picked : Bool → ℕ → ℕ → Bool
-  picked all g i = all || touched g i

@@ -3,3 +3,4 @@ pub mod Lines
 pub mod Element
 pub mod Calls
 pub mod Told
+pub mod Steps

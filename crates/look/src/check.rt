@@ -11,7 +11,8 @@ ghost use Prim.Native.Nat.{min};
 ghost use Rattle.tables.specs.Form.{tablesIn};
 ghost use Rattle.tables.specs.Group.{groupOf};
 ghost use Rattle.look.specs.Element.{pastRecords};
-ghost use Rattle.look.specs.Calls.{lentOf, checkedNo, isElement};
+ghost use Rattle.look.specs.Calls.{lentOf, isElement};
+ghost use Rattle.look.specs.Steps.{checkedNo};
 
 // Refusals: a lent buffer is too short or too long, tables break the table rule, no such element.
 pub const BAD_SIZE: u8 = 20;

@@ -20,7 +20,7 @@ ghost use Rattle.convert.specs.Told.{held};
 ghost use Rattle.tables.specs.Form.{tablesIn};
 ghost use Rattle.tables.specs.Group.{storageOf};
 ghost use Rattle.look.specs.Element.{textAt, means, lineOf};
-ghost use Rattle.look.specs.Calls.{meaningOf};
+ghost use Rattle.look.specs.Steps.{meaningOf};
 
 // What a group's raw numbers mean by: a verbal table with its number, or coefficients.
 pub struct Meaning {

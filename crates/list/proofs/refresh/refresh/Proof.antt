@@ -4,8 +4,8 @@ use Prim.Native.Nat.{_+_, _-_}
 use mathlib.Core.Path.{refl}
 use native.Mathlib.Omega.{arith}
 use borrow.Author.Needs.{needs}
-use Rattle.look.specs.Element.{picked}
 use Rattle.look.specs.Calls.{kept}
+use Rattle.look.specs.Steps.{picked}
 use Rattle.list.proofs.RefreshLaws.{Refreshing, refresh-start, refresh-group, refresh-end, group-fits, group-below, raw-length, state-length, first-length, second-length}
 
 abbrev Inv-loop : tie.InvT-loop

@@ -4,8 +4,8 @@ use Prim.Native.Nat.{_+_, _-_, _≤_}
 use mathlib.Core.Path.{_≡_}
 use native.Mathlib.Omega.{arith}
 use borrow.Author.Needs.{needs}
-use Rattle.look.specs.Element.{picked}
-use Rattle.look.specs.Calls.{kept, putLines}
+use Rattle.look.specs.Calls.{kept}
+use Rattle.look.specs.Steps.{picked, putLines}
 use Rattle.list.proofs.ApartLaws.{passed-is}
 use Rattle.list.proofs.RefreshLaws.{group-none, group-start, group-turn, group-end, group-passed, group-raw, group-state, group-first, group-second}
 

@@ -6,3 +6,4 @@ pub mod MeaningLaws
 pub mod CheckLaws
 pub mod RoomLaws
 pub mod SearchLaws
+pub mod Numbers

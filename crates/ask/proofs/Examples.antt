@@ -10,7 +10,7 @@ use Rattle.number.specs.Digits.{digitOf, valueOn, allDigits}
 use Rattle.number.specs.Decimal.{signs, minus}
 use Rattle.number.specs.Whole.{wholeFrom}
 use Rattle.ask.specs.declared.six.Six.{Six}
-use Rattle.ask.specs.Spot.{lineEnds, sinceEnd, lineAt, columnAt}
+use Rattle.ask.specs.Spot.{lineEnds, sinceEnd, lineNumber, columnAt}
 use Rattle.ask.specs.Six.{roundedMillionths, sixPlaces}
 use Rattle.ask.specs.Typed.{partOf, rawTyped}
 
@@ -23,8 +23,8 @@ text : List ℕ
 unfolding bytes
 text = bytes "ab\n\ncd"
 
-lines : map (lineAt text) (0 ∷ 1 ∷ 2 ∷ 3 ∷ 4 ∷ 5 ∷ 6 ∷ 7 ∷ 99 ∷ []) ≡ 1 ∷ 1 ∷ 1 ∷ 2 ∷ 3 ∷ 3 ∷ 3 ∷ 3 ∷ 3 ∷ []
-unfolding bytes text lineAt lineEnds
+lines : map (lineNumber text) (0 ∷ 1 ∷ 2 ∷ 3 ∷ 4 ∷ 5 ∷ 6 ∷ 7 ∷ 99 ∷ []) ≡ 1 ∷ 1 ∷ 1 ∷ 2 ∷ 3 ∷ 3 ∷ 3 ∷ 3 ∷ 3 ∷ []
+unfolding bytes text lineNumber lineEnds
 lines = refl
 
 columns : map (columnAt text) (0 ∷ 1 ∷ 2 ∷ 3 ∷ 4 ∷ 5 ∷ 6 ∷ 7 ∷ 99 ∷ []) ≡ 1 ∷ 2 ∷ 3 ∷ 1 ∷ 1 ∷ 2 ∷ 3 ∷ 3 ∷ 3 ∷ []

@@ -16,8 +16,8 @@ sinceEnd n [] = n
 sinceEnd n (b ∷ bs) = cond (eqb b 10) (sinceEnd 0 bs) (sinceEnd (suc n) bs)
 
 -- the line and the column of a place, by the bytes before it
-unfoldable pub lineAt : List ℕ → ℕ → ℕ
-lineAt x p = suc (lineEnds (take p x))
+unfoldable pub lineNumber : List ℕ → ℕ → ℕ
+lineNumber x p = suc (lineEnds (take p x))
 
 unfoldable pub columnAt : List ℕ → ℕ → ℕ
 columnAt x p = suc (sinceEnd 0 (take p x))

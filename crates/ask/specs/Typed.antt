@@ -17,9 +17,9 @@ partOf s =
     3
 
 -- the greatest size that an i64 has, with a minus and without
-abbrev pub mostOf : Bool → ℕ
-mostOf true = 2 ^ 63
-mostOf false = 2 ^ 63 - 1
+abbrev pub mostTyped : Bool → ℕ
+mostTyped true = 2 ^ 63
+mostTyped false = 2 ^ 63 - 1
 
 -- the number of a size, below zero where it has a minus
 abbrev pub signedOf : Bool → ℕ → ℤ
@@ -33,4 +33,4 @@ withSign negative (refused k) = refused 15
 -- A raw number is a whole number with an optional sign that an i64 holds: one sign at most, then decimal digits, one or more.
 -- Anything else, the empty word too, is 15.
 unfoldable pub rawTyped : List ℕ → Answer ℤ
-rawTyped s = withSign (minus s) (wholeFrom 10 (mostOf (minus s)) (drop (signs s) s))
+rawTyped s = withSign (minus s) (wholeFrom 10 (mostTyped (minus s)) (drop (signs s) s))

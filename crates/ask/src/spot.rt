@@ -1,6 +1,6 @@
 // A place of a text as people count it: lines and columns from 1, columns in bytes.
 ghost use mathlib.Core.Path.{_≡_};
-ghost use Rattle.ask.specs.Spot.{lineAt, columnAt};
+ghost use Rattle.ask.specs.Spot.{lineNumber, columnAt};
 
 // The byte that ends a line.
 const LF: u8 = 10;
@@ -13,7 +13,7 @@ pub struct Spot {
 
 // The line and the column of a place; a place past the end counts as the end.
 pub fn spot_of(x: &[u8], place: usize) -> Spot
-    ensures { λ r. ⌜ (r .line ≡ lineAt (now (x .entry)) place) × (r .column ≡ columnAt (now (x .entry)) place) ⌝ }
+    ensures { λ r. ⌜ (r .line ≡ lineNumber (now (x .entry)) place) × (r .column ≡ columnAt (now (x .entry)) place) ⌝ }
 {
     let mut i: usize = 0;
     let mut line: usize = 1;

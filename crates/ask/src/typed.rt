@@ -5,7 +5,7 @@ ghost use lib.ListN.{length, drop};
 ghost use Rattle.number.specs.Decimal.{signs, minus};
 ghost use Rattle.number.specs.Told.{toldWhole};
 ghost use Rattle.number.specs.Whole.{wholeFrom};
-ghost use Rattle.ask.specs.Typed.{partOf, mostOf, signedOf, rawTyped};
+ghost use Rattle.ask.specs.Typed.{partOf, mostTyped, signedOf, rawTyped};
 ghost use Rattle.ask.specs.Told.{toldTyped};
 use number::digits::NO_FORM;
 use number::whole::WholeAnswer;
@@ -81,7 +81,7 @@ fn is_minus(s: &[u8]) -> bool
 
 // The greatest size that an i64 has, with a minus or without.
 fn most_of(negative: bool) -> u64
-    ensures { λ r. ⌜ r ≡ mostOf negative ⌝ }
+    ensures { λ r. ⌜ r ≡ mostTyped negative ⌝ }
 {
     if negative {
         return MOST_BELOW;
@@ -91,7 +91,7 @@ fn most_of(negative: bool) -> u64
 
 // The number of a size, with or without a minus.
 fn with_sign(negative: bool, n: u64) -> i64
-    requires { ⌜ n ≤ mostOf negative ⌝ }
+    requires { ⌜ n ≤ mostTyped negative ⌝ }
     ensures { λ r. ⌜ r ≡ signedOf negative n ⌝ }
 {
     if negative {
@@ -119,7 +119,7 @@ fn digits_of(s: &[u8], most: u64) -> WholeAnswer
 
 // The size that a word writes after its sign, at most what an i64 has.
 fn size_of(s: &[u8], negative: bool) -> WholeAnswer
-    ensures { λ r. ⌜ toldWhole r ≡ wholeFrom 10 (mostOf negative) (drop (signs (now (s .entry))) (now (s .entry))) ⌝ }
+    ensures { λ r. ⌜ toldWhole r ≡ wholeFrom 10 (mostTyped negative) (drop (signs (now (s .entry))) (now (s .entry))) ⌝ }
 {
     let at = sign_len(s);
     digits_of(&s[at..], most_of(negative))

@@ -17,7 +17,7 @@ use Rattle.records.proofs.Encode.{Good, Wide, fit-few, none-good, none-encode}
 use Rattle.rows.specs.Codes.{TAB-VERB}
 use Rattle.rows.specs.Sections as records
 use Rattle.grammar.specs.Move.{View, view, viewIn}
-use Rattle.tables.specs.Form.{sections, head, object, group, method, table, entry}
+use Rattle.tables.specs.Form.{tableSections, headSection, objectSection, groupSection, methodSection, tableSection, entrySection}
 use Rattle.build.specs.Build.{rowsBelow, objectRow, meaning, limitCells, xPart, yPart, valuesPart, xRow, yRow, valuesRow, groupsBelow, tableNumber, verbalRow, fractionRow, methodRow, tableRow, entryRow, built}
 use Rattle.build.specs.Row.{rowIn, rowsIn}
 use Rattle.build.specs.declared.part.Known.{Known}
@@ -179,108 +179,108 @@ module _ (image : List ℕ) (base : ℕ) (x : List ℕ) (v : View) (e : ℕ) (w 
   few-entries : length entryRows ≤ 1024
   few-entries = omega (arith, w .entries, rows-long (v .counts records.entry) (entryRow v))
 
-  pub built-good : Good sections (built image base x v e)
-  unfolding sections built
+  pub built-good : Good tableSections (built image base x v e)
+  unfolding tableSections built
   built-good =
       ((refl, tt), omega arith, (wide-objects, few-objects, (wide-groups, few-groups, (wide-methods, few-methods, (wide-tables, few-tables, (wide-entries, few-entries, refl))))))
 
   -- rows put into cells of zeros, section after section
-  pub built-encode : (n : ℕ) → room sections ≤ n
-      → rowsIn (rowsIn (rowsIn (rowsIn (rowsIn (rowsIn (replicate n 0) head headRows) object objectRows) group groupRows) method methodRows) table tableRows) entry entryRows ≡ encode sections n (built image base x v e)
-  unfolding sections built
+  pub built-encode : (n : ℕ) → room tableSections ≤ n
+      → rowsIn (rowsIn (rowsIn (rowsIn (rowsIn (rowsIn (replicate n 0) headSection headRows) objectSection objectRows) groupSection groupRows) methodSection methodRows) tableSection tableRows) entrySection entryRows ≡ encode tableSections n (built image base x v e)
+  unfolding tableSections built
   built-encode n h =
       let d₀ : List (List (List ℕ)) = [] ∷ [] ∷ [] ∷ [] ∷ [] ∷ [] ∷ [] in
-      let g₀ : Good sections d₀ = none-good sections in
-      let f₀ : Fits d₀ head headRows = record { there = omega arith; wide = (refl, tt); few = omega arith } in
-      let d₁ : List (List (List ℕ)) = appended d₀ head headRows in
-      let g₁ : Good sections d₁ = good-rows d₀ head headRows g₀ f₀ in
-      let f₁ : Fits d₁ object objectRows = record { there = omega arith; wide = wide-objects; few = omega (arith, few-objects) } in
-      let d₂ : List (List (List ℕ)) = appended d₁ object objectRows in
-      let g₂ : Good sections d₂ = good-rows d₁ object objectRows g₁ f₁ in
-      let f₂ : Fits d₂ group groupRows = record { there = omega arith; wide = wide-groups; few = omega (arith, few-groups) } in
-      let d₃ : List (List (List ℕ)) = appended d₂ group groupRows in
-      let g₃ : Good sections d₃ = good-rows d₂ group groupRows g₂ f₂ in
-      let f₃ : Fits d₃ method methodRows = record { there = omega arith; wide = wide-methods; few = omega (arith, few-methods) } in
-      let d₄ : List (List (List ℕ)) = appended d₃ method methodRows in
-      let g₄ : Good sections d₄ = good-rows d₃ method methodRows g₃ f₃ in
-      let f₄ : Fits d₄ table tableRows = record { there = omega arith; wide = wide-tables; few = omega (arith, few-tables) } in
-      let d₅ : List (List (List ℕ)) = appended d₄ table tableRows in
-      let g₅ : Good sections d₅ = good-rows d₄ table tableRows g₄ f₄ in
-      let f₅ : Fits d₅ entry entryRows = record { there = omega arith; wide = wide-entries; few = omega (arith, few-entries) } in
-      ap (λ (u : List ℕ). rowsIn (rowsIn (rowsIn (rowsIn (rowsIn (rowsIn u head headRows) object objectRows) group groupRows) method methodRows) table tableRows) entry entryRows) (none-encode sections n h)
-      ∙ ap (λ (u : List ℕ). rowsIn (rowsIn (rowsIn (rowsIn (rowsIn u object objectRows) group groupRows) method methodRows) table tableRows) entry entryRows) (rows-encode n d₀ head headRows g₀ f₀)
-      ∙ ap (λ (u : List ℕ). rowsIn (rowsIn (rowsIn (rowsIn u group groupRows) method methodRows) table tableRows) entry entryRows) (rows-encode n d₁ object objectRows g₁ f₁)
-      ∙ ap (λ (u : List ℕ). rowsIn (rowsIn (rowsIn u method methodRows) table tableRows) entry entryRows) (rows-encode n d₂ group groupRows g₂ f₂)
-      ∙ ap (λ (u : List ℕ). rowsIn (rowsIn u table tableRows) entry entryRows) (rows-encode n d₃ method methodRows g₃ f₃)
-      ∙ ap (λ (u : List ℕ). rowsIn u entry entryRows) (rows-encode n d₄ table tableRows g₄ f₄)
-      ∙ rows-encode n d₅ entry entryRows g₅ f₅
+      let g₀ : Good tableSections d₀ = none-good tableSections in
+      let f₀ : Fits d₀ headSection headRows = record { there = omega arith; wide = (refl, tt); few = omega arith } in
+      let d₁ : List (List (List ℕ)) = appended d₀ headSection headRows in
+      let g₁ : Good tableSections d₁ = good-rows d₀ headSection headRows g₀ f₀ in
+      let f₁ : Fits d₁ objectSection objectRows = record { there = omega arith; wide = wide-objects; few = omega (arith, few-objects) } in
+      let d₂ : List (List (List ℕ)) = appended d₁ objectSection objectRows in
+      let g₂ : Good tableSections d₂ = good-rows d₁ objectSection objectRows g₁ f₁ in
+      let f₂ : Fits d₂ groupSection groupRows = record { there = omega arith; wide = wide-groups; few = omega (arith, few-groups) } in
+      let d₃ : List (List (List ℕ)) = appended d₂ groupSection groupRows in
+      let g₃ : Good tableSections d₃ = good-rows d₂ groupSection groupRows g₂ f₂ in
+      let f₃ : Fits d₃ methodSection methodRows = record { there = omega arith; wide = wide-methods; few = omega (arith, few-methods) } in
+      let d₄ : List (List (List ℕ)) = appended d₃ methodSection methodRows in
+      let g₄ : Good tableSections d₄ = good-rows d₃ methodSection methodRows g₃ f₃ in
+      let f₄ : Fits d₄ tableSection tableRows = record { there = omega arith; wide = wide-tables; few = omega (arith, few-tables) } in
+      let d₅ : List (List (List ℕ)) = appended d₄ tableSection tableRows in
+      let g₅ : Good tableSections d₅ = good-rows d₄ tableSection tableRows g₄ f₄ in
+      let f₅ : Fits d₅ entrySection entryRows = record { there = omega arith; wide = wide-entries; few = omega (arith, few-entries) } in
+      ap (λ (u : List ℕ). rowsIn (rowsIn (rowsIn (rowsIn (rowsIn (rowsIn u headSection headRows) objectSection objectRows) groupSection groupRows) methodSection methodRows) tableSection tableRows) entrySection entryRows) (none-encode tableSections n h)
+      ∙ ap (λ (u : List ℕ). rowsIn (rowsIn (rowsIn (rowsIn (rowsIn u objectSection objectRows) groupSection groupRows) methodSection methodRows) tableSection tableRows) entrySection entryRows) (rows-encode n d₀ headSection headRows g₀ f₀)
+      ∙ ap (λ (u : List ℕ). rowsIn (rowsIn (rowsIn (rowsIn u groupSection groupRows) methodSection methodRows) tableSection tableRows) entrySection entryRows) (rows-encode n d₁ objectSection objectRows g₁ f₁)
+      ∙ ap (λ (u : List ℕ). rowsIn (rowsIn (rowsIn u methodSection methodRows) tableSection tableRows) entrySection entryRows) (rows-encode n d₂ groupSection groupRows g₂ f₂)
+      ∙ ap (λ (u : List ℕ). rowsIn (rowsIn u tableSection tableRows) entrySection entryRows) (rows-encode n d₃ methodSection methodRows g₃ f₃)
+      ∙ ap (λ (u : List ℕ). rowsIn u entrySection entryRows) (rows-encode n d₄ tableSection tableRows g₄ f₄)
+      ∙ rows-encode n d₅ entrySection entryRows g₅ f₅
 
-  head-first : (u₀ u₁ : List ℕ) → u₁ ≡ rowIn u₀ head (0 ∷ 0 ∷ e ∷ []) → u₁ ≡ rowsIn u₀ head headRows
+  head-first : (u₀ u₁ : List ℕ) → u₁ ≡ rowIn u₀ headSection (0 ∷ 0 ∷ e ∷ []) → u₁ ≡ rowsIn u₀ headSection headRows
   unfolding rowsIn
   head-first u₀ u₁ p = p
 
   -- what the code does, call by call
-  pub built-is : (u₀ u₁ u₂ u₃ u₄ u₅ u₆ : List ℕ) → u₀ ≡ replicate (length u₀) 0 → room sections ≤ length u₀ → u₁ ≡ rowIn u₀ head (0 ∷ 0 ∷ e ∷ []) → u₂ ≡ rowsIn u₁ object objectRows
-      → u₃ ≡ rowsIn u₂ group groupRows → u₄ ≡ rowsIn u₃ method methodRows → u₅ ≡ rowsIn u₄ table tableRows → u₆ ≡ rowsIn u₅ entry entryRows → u₆ ≡ encode sections (length u₀) (built image base x v e)
+  pub built-is : (u₀ u₁ u₂ u₃ u₄ u₅ u₆ : List ℕ) → u₀ ≡ replicate (length u₀) 0 → room tableSections ≤ length u₀ → u₁ ≡ rowIn u₀ headSection (0 ∷ 0 ∷ e ∷ []) → u₂ ≡ rowsIn u₁ objectSection objectRows
+      → u₃ ≡ rowsIn u₂ groupSection groupRows → u₄ ≡ rowsIn u₃ methodSection methodRows → u₅ ≡ rowsIn u₄ tableSection tableRows → u₆ ≡ rowsIn u₅ entrySection entryRows → u₆ ≡ encode tableSections (length u₀) (built image base x v e)
   built-is u₀ u₁ u₂ u₃ u₄ u₅ u₆ z h p₁ p₂ p₃ p₄ p₅ p₆ =
       p₆ ∙ rw (p₅, p₄, p₃, p₂, head-first u₀ u₁ p₁)
-      (ap (λ (u : List ℕ). rowsIn (rowsIn (rowsIn (rowsIn (rowsIn (rowsIn u head headRows) object objectRows) group groupRows) method methodRows) table tableRows) entry entryRows) z
+      (ap (λ (u : List ℕ). rowsIn (rowsIn (rowsIn (rowsIn (rowsIn (rowsIn u headSection headRows) objectSection objectRows) groupSection groupRows) methodSection methodRows) tableSection tableRows) entrySection entryRows) z
       ∙ built-encode (length u₀) h)
 
   -- ---- what stands in the tables
 
-  pub count-head : count (built image base x v e) head ≡ 1
+  pub count-head : count (built image base x v e) headSection ≡ 1
   unfolding built
   count-head = refl
 
-  pub count-objects : count (built image base x v e) object ≡ v .counts records.object
+  pub count-objects : count (built image base x v e) objectSection ≡ v .counts records.object
   unfolding built
   count-objects = rows-long (v .counts records.object) (objectRow v)
 
-  pub count-groups : count (built image base x v e) group ≡ v .counts records.object * 3
+  pub count-groups : count (built image base x v e) groupSection ≡ v .counts records.object * 3
   unfolding built
   count-groups = groups-long image base x v (v .counts records.object)
 
-  pub count-methods : count (built image base x v e) method ≡ v .counts records.method
+  pub count-methods : count (built image base x v e) methodSection ≡ v .counts records.method
   unfolding built
   count-methods = rows-long (v .counts records.method) (methodRow x v)
 
-  pub count-tables : count (built image base x v e) table ≡ v .counts records.table
+  pub count-tables : count (built image base x v e) tableSection ≡ v .counts records.table
   unfolding built
   count-tables = rows-long (v .counts records.table) (tableRow v)
 
-  pub count-entries : count (built image base x v e) entry ≡ v .counts records.entry
+  pub count-entries : count (built image base x v e) entrySection ≡ v .counts records.entry
   unfolding built
   count-entries = rows-long (v .counts records.entry) (entryRow v)
 
-  pub slot-head : (k : ℕ) → slot (built image base x v e) head 0 k ≡ getD (0 ∷ 0 ∷ e ∷ []) k 0
+  pub slot-head : (k : ℕ) → slot (built image base x v e) headSection 0 k ≡ getD (0 ∷ 0 ∷ e ∷ []) k 0
   unfolding built
   slot-head k = refl
 
-  pub slot-object : (i k : ℕ) → i < v .counts records.object → slot (built image base x v e) object i k ≡ getD (objectRow v i) k 0
+  pub slot-object : (i k : ℕ) → i < v .counts records.object → slot (built image base x v e) objectSection i k ≡ getD (objectRow v i) k 0
   unfolding built
   slot-object i k h = ap (λ (r : List ℕ). getD r k 0) (rows-at (v .counts records.object) (objectRow v) i h)
 
-  pub slot-x : (i k : ℕ) → i < v .counts records.object → slot (built image base x v e) group (i * 3) k ≡ getD (xRow image base x v i) k 0
+  pub slot-x : (i k : ℕ) → i < v .counts records.object → slot (built image base x v e) groupSection (i * 3) k ≡ getD (xRow image base x v i) k 0
   unfolding built
   slot-x i k h = let z : i * 3 ≡ i * 3 + 0 = omega arith in rw z (ap (λ (r : List ℕ). getD r k 0) (groups-at image base x v (v .counts records.object) i 0 (omega arith) h))
 
-  pub slot-y : (i k : ℕ) → i < v .counts records.object → slot (built image base x v e) group (i * 3 + 1) k ≡ getD (yRow image base x v i) k 0
+  pub slot-y : (i k : ℕ) → i < v .counts records.object → slot (built image base x v e) groupSection (i * 3 + 1) k ≡ getD (yRow image base x v i) k 0
   unfolding built
   slot-y i k h = ap (λ (r : List ℕ). getD r k 0) (groups-at image base x v (v .counts records.object) i 1 (omega arith) h)
 
-  pub slot-values : (i k : ℕ) → i < v .counts records.object → slot (built image base x v e) group (i * 3 + 2) k ≡ getD (valuesRow image base x v i) k 0
+  pub slot-values : (i k : ℕ) → i < v .counts records.object → slot (built image base x v e) groupSection (i * 3 + 2) k ≡ getD (valuesRow image base x v i) k 0
   unfolding built
   slot-values i k h = ap (λ (r : List ℕ). getD r k 0) (groups-at image base x v (v .counts records.object) i 2 (omega arith) h)
 
-  pub slot-method : (i k : ℕ) → i < v .counts records.method → slot (built image base x v e) method i k ≡ getD (methodRow x v i) k 0
+  pub slot-method : (i k : ℕ) → i < v .counts records.method → slot (built image base x v e) methodSection i k ≡ getD (methodRow x v i) k 0
   unfolding built
   slot-method i k h = ap (λ (r : List ℕ). getD r k 0) (rows-at (v .counts records.method) (methodRow x v) i h)
 
-  pub slot-table : (i k : ℕ) → i < v .counts records.table → slot (built image base x v e) table i k ≡ getD (tableRow v i) k 0
+  pub slot-table : (i k : ℕ) → i < v .counts records.table → slot (built image base x v e) tableSection i k ≡ getD (tableRow v i) k 0
   unfolding built
   slot-table i k h = ap (λ (r : List ℕ). getD r k 0) (rows-at (v .counts records.table) (tableRow v) i h)
 
-  pub slot-entry : (i k : ℕ) → i < v .counts records.entry → slot (built image base x v e) entry i k ≡ getD (entryRow v i) k 0
+  pub slot-entry : (i k : ℕ) → i < v .counts records.entry → slot (built image base x v e) entrySection i k ≡ getD (entryRow v i) k 0
   unfolding built
   slot-entry i k h = ap (λ (r : List ℕ). getD r k 0) (rows-at (v .counts records.entry) (entryRow v) i h)

@@ -15,7 +15,7 @@ use Rattle.records.specs.Records.{Sec, noSec, widthOf, mostOf, recordsOf, count
 use Rattle.records.specs.Cells.{encode, sectionIn, countIn, putIn, addIn}
 use Rattle.records.proofs.Encode.{Good, Wide, count-encode, put-encode, add-encode, good-put, good-add}
 use Rattle.grammar.specs.Move.{puts}
-use Rattle.tables.specs.Form.{sections}
+use Rattle.tables.specs.Form.{tableSections}
 use Rattle.build.specs.Row.{putsAt, opened, rowIn, rowsIn}
 
 -- ---- lists
@@ -65,46 +65,46 @@ abbrev pub appended : List (List (List ℕ)) → ℕ → List (List ℕ) → Lis
 appended d j rs = set d j (recordsOf d j ++ rs)
 
 -- a record of zeros is added, and all its numbers are put
-row-is : (d : List (List (List ℕ))) (j : ℕ) (vs : List ℕ) → j < length d → count d j < mostOf sections j → length vs ≡ widthOf sections j
-    → puts (add sections d j) j (count d j) 0 vs ≡ appended d j (vs ∷ [])
+row-is : (d : List (List (List ℕ))) (j : ℕ) (vs : List ℕ) → j < length d → count d j < mostOf tableSections j → length vs ≡ widthOf tableSections j
+    → puts (add tableSections d j) j (count d j) 0 vs ≡ appended d j (vs ∷ [])
 row-is d j vs hj hc hw =
     let r : List (List ℕ) = recordsOf d j in
-    let z : List ℕ = replicate (widthOf sections j) 0 in
-    let a : add sections d j ≡ set d j (r ++ (z ∷ [])) = rw (lt-ltb (count d j) (mostOf sections j) hc) in
+    let z : List ℕ = replicate (widthOf tableSections j) 0 in
+    let a : add tableSections d j ≡ set d j (r ++ (z ∷ [])) = rw (lt-ltb (count d j) (mostOf tableSections j) hc) in
     let e : recordsOf (set d j (r ++ (z ∷ []))) j ≡ r ++ (z ∷ []) = getD-set-same d j (r ++ (z ∷ [])) [] hj in
     let lj : j < length (set d j (r ++ (z ∷ []))) = rw (length-set d j (r ++ (z ∷ []))) hj in
     let li : length r < length (recordsOf (set d j (r ++ (z ∷ []))) j) = rw (e, length-append r (z ∷ [])) (omega arith) in
-    let w : length z ≡ length vs = length-replicate (widthOf sections j) 0 ∙ sym hw in
+    let w : length z ≡ length vs = length-replicate (widthOf tableSections j) 0 ∙ sym hw in
     rw a (puts-is (set d j (r ++ (z ∷ []))) j (length r) 0 vs lj li
     ∙ rw (e, get-last r z [], sets-all vs z w, set-last r z vs, set-set d j (r ++ (z ∷ [])) (r ++ (vs ∷ []))))
 
 -- ---- cells
 
 module _ (n : ℕ) where
-  puts-encode : (d : List (List (List ℕ))) → Good sections d → (j i k : ℕ) (vs : List ℕ) → putsAt (encode sections n d) j i k vs ≡ encode sections n (puts d j i k vs)
+  puts-encode : (d : List (List (List ℕ))) → Good tableSections d → (j i k : ℕ) (vs : List ℕ) → putsAt (encode tableSections n d) j i k vs ≡ encode tableSections n (puts d j i k vs)
   unfolding putsAt
   puts-encode d g j i k [] = refl
-  puts-encode d g j i k (v ∷ vs) = rw (put-encode sections n d g j i k v) (puts-encode (put d j i k v) (good-put sections n d g j i k v) j i (suc k) vs)
+  puts-encode d g j i k (v ∷ vs) = rw (put-encode tableSections n d g j i k v) (puts-encode (put d j i k v) (good-put tableSections n d g j i k v) j i (suc k) vs)
 
-good-puts : (d : List (List (List ℕ))) → Good sections d → (j i k : ℕ) (vs : List ℕ) → Good sections (puts d j i k vs)
+good-puts : (d : List (List (List ℕ))) → Good tableSections d → (j i k : ℕ) (vs : List ℕ) → Good tableSections (puts d j i k vs)
 good-puts d g j i k [] = g
-good-puts d g j i k (v ∷ vs) = good-puts (put d j i k v) (good-put sections 0 d g j i k v) j i (suc k) vs
+good-puts d g j i k (v ∷ vs) = good-puts (put d j i k v) (good-put tableSections 0 d g j i k v) j i (suc k) vs
 
-module _ (d : List (List (List ℕ))) (g : Good sections d) (j : ℕ) (vs : List ℕ) (hj : j < length d) (hc : count d j < mostOf sections j) (hw : length vs ≡ widthOf sections j) where
-  good-row : Good sections (appended d j (vs ∷ []))
-  good-row = rw (row-is d j vs hj hc hw) at (good-puts (add sections d j) (good-add sections 0 d g j) j (count d j) 0 vs)
+module _ (d : List (List (List ℕ))) (g : Good tableSections d) (j : ℕ) (vs : List ℕ) (hj : j < length d) (hc : count d j < mostOf tableSections j) (hw : length vs ≡ widthOf tableSections j) where
+  good-row : Good tableSections (appended d j (vs ∷ []))
+  good-row = rw (row-is d j vs hj hc hw) at (good-puts (add tableSections d j) (good-add tableSections 0 d g j) j (count d j) 0 vs)
 
-  row-encode : (n : ℕ) → rowIn (encode sections n d) j vs ≡ encode sections n (appended d j (vs ∷ []))
+  row-encode : (n : ℕ) → rowIn (encode tableSections n d) j vs ≡ encode tableSections n (appended d j (vs ∷ []))
   unfolding rowIn
   row-encode n =
-      rw (count-encode sections n d g j, add-encode sections n d g j)
-      (puts-encode n (add sections d j) (good-add sections n d g j) j (count d j) 0 vs ∙ ap (encode sections n) (row-is d j vs hj hc hw))
+      rw (count-encode tableSections n d g j, add-encode tableSections n d g j)
+      (puts-encode n (add tableSections d j) (good-add tableSections n d g j) j (count d j) 0 vs ∙ ap (encode tableSections n) (row-is d j vs hj hc hw))
 
 -- what rows ask of a section: it is there, it is as wide as they are, and it has room for them
 pub record Fits (d : List (List (List ℕ))) (j : ℕ) (rs : List (List ℕ)) : Type 0 where
   pub there : j < length d
-  pub wide : Wide (widthOf sections j) rs
-  pub few : count d j + length rs ≤ mostOf sections j
+  pub wide : Wide (widthOf tableSections j) rs
+  pub few : count d j + length rs ≤ mostOf tableSections j
 
 -- the first row, and then the rest
 rest-fits : (d : List (List (List ℕ))) (j : ℕ) (r : List ℕ) (rs : List (List ℕ)) → Fits d j (r ∷ rs) → Fits (appended d j (r ∷ [])) j rs
@@ -118,17 +118,17 @@ appended-on : (d : List (List (List ℕ))) (j : ℕ) (r : List ℕ) (rs : List (
 appended-on d j r rs h =
     rw (getD-set-same d j (recordsOf d j ++ (r ∷ [])) [] h, append-assoc (recordsOf d j) (r ∷ []) rs) (set-set d j (recordsOf d j ++ (r ∷ [])) (recordsOf d j ++ (r ∷ rs)))
 
-pub good-rows : (d : List (List (List ℕ))) (j : ℕ) (rs : List (List ℕ)) → Good sections d → Fits d j rs → Good sections (appended d j rs)
+pub good-rows : (d : List (List (List ℕ))) (j : ℕ) (rs : List (List ℕ)) → Good tableSections d → Fits d j rs → Good tableSections (appended d j rs)
 good-rows d j [] g f = rw (append-nil (recordsOf d j), set-getD d j []) g
 good-rows d j (r ∷ rs) g f =
     rw (appended-on d j r rs (f .there)) at
     (good-rows (appended d j (r ∷ [])) j rs (good-row d g j r (f .there) (omega (arith, f .few)) (f .wide .0)) (rest-fits d j r rs f))
 
-pub rows-encode : (n : ℕ) (d : List (List (List ℕ))) (j : ℕ) (rs : List (List ℕ)) → Good sections d → Fits d j rs → rowsIn (encode sections n d) j rs ≡ encode sections n (appended d j rs)
+pub rows-encode : (n : ℕ) (d : List (List (List ℕ))) (j : ℕ) (rs : List (List ℕ)) → Good tableSections d → Fits d j rs → rowsIn (encode tableSections n d) j rs ≡ encode tableSections n (appended d j rs)
 unfolding rowsIn
-rows-encode n d j [] g f = ap (encode sections n) (sym (rw (append-nil (recordsOf d j)) (set-getD d j [])))
+rows-encode n d j [] g f = ap (encode tableSections n) (sym (rw (append-nil (recordsOf d j)) (set-getD d j [])))
 rows-encode n d j (r ∷ rs) g f =
-    let h : count d j < mostOf sections j = omega (arith, f .few) in
+    let h : count d j < mostOf tableSections j = omega (arith, f .few) in
     rw (row-encode d g j r (f .there) h (f .wide .0) n)
     (rows-encode n (appended d j (r ∷ [])) j rs (good-row d g j r (f .there) h (f .wide .0)) (rest-fits d j r rs f)
-    ∙ ap (encode sections n) (appended-on d j r rs (f .there)))
+    ∙ ap (encode tableSections n) (appended-on d j r rs (f .there)))

@@ -14,9 +14,9 @@ use Rattle.grammar.specs.Move.{View}
 use Rattle.place.specs.declared.order.Layout.{Layout}
 use Rattle.place.specs.declared.rules.Need.{Need}
 use Rattle.place.specs.declared.walk.Places.{Places}
-use Rattle.tables.specs.Form.{group}
+use Rattle.tables.specs.Form.{groupSection}
 use Rattle.objects.specs.Object.{layoutNumber, layoutOf, firstOf, axisAt, needOf, placesOf}
-use Rattle.build.specs.Build.{flag, whatOf, ofObject, ofAxis, xSource, axisWalk, valuesWalk, maskOf, meaning, standing, counter, noPart, xPart, yPart, valuesPart, knownOf, xRow, yRow, valuesRow, groupsBelow}
+use Rattle.build.specs.Build.{flag, whatOf, ofObject, ofAxis, xSource, axisWalk, valuesWalk, maskOf, meaning, standingCells, counterCells, noPartCells, xPart, yPart, valuesPart, knownOf, xRow, yRow, valuesRow, groupsBelow}
 use Rattle.build.specs.Row.{rowIn, rowsIn, axisSpot}
 use Rattle.build.specs.declared.part.Known.{Known}
 use Rattle.build.specs.declared.part.Source.{Source}
@@ -70,29 +70,29 @@ pub ruleset axis-spots = (axis-spot-is, needs)
 
 module _ (base : ℕ) (x : List ℕ) (v : View) (i : ℕ) (o : Known) (u w : List ℕ) where
   pub x-stored : (s : Spot) (c : Source) (p : ℕ) → o .need .x .stored ≡ true → s ≡ axisSpot v (o .layout .x .kind) (o .first) (o .places .x) base (o .places .cx) (o .number) 18
-      → c ≡ xSource v i → p ≡ o .places .nx - base → w ≡ rowIn u group (standing (s .kind) (s .first) (s .place) (s .cx) (s .cy) (s .walk) ++ (meaning x v c 0 false ++ counter (o .layout .nx) p)) → w ≡ rowIn u group (xPart base x v i o)
+      → c ≡ xSource v i → p ≡ o .places .nx - base → w ≡ rowIn u groupSection (standingCells (s .kind) (s .first) (s .place) (s .cx) (s .cy) (s .walk) ++ (meaning x v c 0 false ++ counterCells (o .layout .nx) p)) → w ≡ rowIn u groupSection (xPart base x v i o)
   unfolding xPart axisSpot
   x-stored s c p h a b d z = z ∙ rw (h, a, b, d)
 
-  pub x-none : o .need .x .stored ≡ false → w ≡ rowIn u group noPart → w ≡ rowIn u group (xPart base x v i o)
+  pub x-none : o .need .x .stored ≡ false → w ≡ rowIn u groupSection noPartCells → w ≡ rowIn u groupSection (xPart base x v i o)
   unfolding xPart
   x-none h z = z ∙ rw h
 
   pub y-stored : (s : Spot) (c : Source) (n p : ℕ) → o .need .y .stored ≡ true → s ≡ axisSpot v (o .layout .y .kind) (o .first) (o .places .y) base (o .places .cy) (o .number) 23
-      → n ≡ axisAt v i 1 → c ≡ ofAxis n → p ≡ o .places .ny - base → w ≡ rowIn u group (standing (s .kind) (s .first) (s .place) (s .cx) (s .cy) (s .walk) ++ (meaning x v c 0 false ++ counter (o .layout .ny) p)) → w ≡ rowIn u group (yPart base x v i o)
+      → n ≡ axisAt v i 1 → c ≡ ofAxis n → p ≡ o .places .ny - base → w ≡ rowIn u groupSection (standingCells (s .kind) (s .first) (s .place) (s .cx) (s .cy) (s .walk) ++ (meaning x v c 0 false ++ counterCells (o .layout .ny) p)) → w ≡ rowIn u groupSection (yPart base x v i o)
   unfolding yPart axisSpot
   y-stored s c n p h a e b d z = z ∙ rw (h, a, b, e, d)
 
-  pub y-none : o .need .y .stored ≡ false → w ≡ rowIn u group noPart → w ≡ rowIn u group (yPart base x v i o)
+  pub y-none : o .need .y .stored ≡ false → w ≡ rowIn u groupSection noPartCells → w ≡ rowIn u groupSection (yPart base x v i o)
   unfolding yPart
   y-none h z = z ∙ rw h
 
   pub values-stored : (s : Spot) (c : Source) (m k : ℕ) → o .need .values ≡ true → s ≡ spot (o .layout .values .kind) (o .first) (o .places .values - base) (o .places .cx) (o .places .cy) (valuesWalk v i (o .number))
-      → m ≡ maskOf v i → k ≡ whatOf v i → c ≡ ofObject i → w ≡ rowIn u group (standing (s .kind) (s .first) (s .place) (s .cx) (s .cy) (s .walk) ++ (meaning x v c m (eqb k 10) ++ (0 ∷ 0 ∷ []))) → w ≡ rowIn u group (valuesPart base x v i o)
+      → m ≡ maskOf v i → k ≡ whatOf v i → c ≡ ofObject i → w ≡ rowIn u groupSection (standingCells (s .kind) (s .first) (s .place) (s .cx) (s .cy) (s .walk) ++ (meaning x v c m (eqb k 10) ++ (0 ∷ 0 ∷ []))) → w ≡ rowIn u groupSection (valuesPart base x v i o)
   unfolding valuesPart
   values-stored s c m k h a d e b z = z ∙ rw (h, a, b, d, e)
 
-  pub values-none : o .need .values ≡ false → w ≡ rowIn u group noPart → w ≡ rowIn u group (valuesPart base x v i o)
+  pub values-none : o .need .values ≡ false → w ≡ rowIn u groupSection noPartCells → w ≡ rowIn u groupSection (valuesPart base x v i o)
   unfolding valuesPart
   values-none h z = z ∙ rw h
 
@@ -108,7 +108,7 @@ values-spot-is v i base w p o a b = rw (a, b)
 
 pub ruleset values-spots = (values-spot-is, needs)
 
-pub parts-are : (a b c u u₁ u₂ u₃ : List ℕ) → u₁ ≡ rowIn u group a → u₂ ≡ rowIn u₁ group b → u₃ ≡ rowIn u₂ group c → u₃ ≡ rowsIn u group (a ∷ b ∷ c ∷ [])
+pub parts-are : (a b c u u₁ u₂ u₃ : List ℕ) → u₁ ≡ rowIn u groupSection a → u₂ ≡ rowIn u₁ groupSection b → u₃ ≡ rowIn u₂ groupSection c → u₃ ≡ rowsIn u groupSection (a ∷ b ∷ c ∷ [])
 unfolding rowsIn
 parts-are a b c u u₁ u₂ u₃ p q r = r ∙ rw (q, p)
 
@@ -119,23 +119,23 @@ module _ (image : List ℕ) (base : ℕ) (x : List ℕ) (v : View) (t : List ℕ
   pub record Grouping (i : ℕ) (u : List ℕ) : Type 0 where
     pub within : i ≤ v .counts object
     pub long : length u ≡ length t
-    pub is : u ≡ rowsIn t group (groupsBelow image base x v i)
+    pub is : u ≡ rowsIn t groupSection (groupsBelow image base x v i)
 
   pub grouping-start : Grouping 0 t
   unfolding rowsIn groupsBelow
   grouping-start = record { within = omega arith; long = refl; is = refl }
 
   pub grouping-on : (c i : ℕ) (o : Known) (u w : List ℕ) → Grouping i u → c ≡ v .counts object → i < c → o ≡ knownOf image base x v i
-      → w ≡ rowsIn u group (xPart base x v i o ∷ yPart base x v i o ∷ valuesPart base x v i o ∷ []) → Grouping (i + 1) w
+      → w ≡ rowsIn u groupSection (xPart base x v i o ∷ yPart base x v i o ∷ valuesPart base x v i o ∷ []) → Grouping (i + 1) w
   unfolding groupsBelow
   grouping-on c i o u w z e h k q =
       record {
         within = omega arith;
-        long = ap length q ∙ length-rows u group _ ∙ z .long;
-        is = q ∙ rw (k, z .is, add-one i) (sym (rows-on t group (groupsBelow image base x v i) (xRow image base x v i ∷ yRow image base x v i ∷ valuesRow image base x v i ∷ [])));
+        long = ap length q ∙ length-rows u groupSection _ ∙ z .long;
+        is = q ∙ rw (k, z .is, add-one i) (sym (rows-on t groupSection (groupsBelow image base x v i) (xRow image base x v i ∷ yRow image base x v i ∷ valuesRow image base x v i ∷ [])));
       }
 
-  pub grouping-end : (c i : ℕ) (u : List ℕ) → Grouping i u → c ≡ v .counts object → c ≤ i → u ≡ rowsIn t group (groupsBelow image base x v (v .counts object))
+  pub grouping-end : (c i : ℕ) (u : List ℕ) → Grouping i u → c ≡ v .counts object → c ≤ i → u ≡ rowsIn t groupSection (groupsBelow image base x v (v .counts object))
   grouping-end c i u z e h = let d : i ≡ v .counts object = omega (arith, z .within) in rw d at (z .is)
 
 pub ruleset groupings = (grouping-start, grouping-on, grouping-end, needs)

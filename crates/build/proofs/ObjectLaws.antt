@@ -46,7 +46,7 @@ module _ (v : View) (i k : ℕ) (p : k ≡ v .slots object i 3) where
 
 pub ruleset whats = (what-axis, what-type, what-measured, needs)
 
-pub object-is : (v : View) (i a b c : ℕ) (u w : List ℕ) → a ≡ v .slots object i 0 → b ≡ v .slots object i 1 → c ≡ whatOf v i → w ≡ rowIn u form.object (a ∷ b ∷ c ∷ []) → w ≡ rowIn u form.object (objectRow v i)
+pub object-is : (v : View) (i a b c : ℕ) (u w : List ℕ) → a ≡ v .slots object i 0 → b ≡ v .slots object i 1 → c ≡ whatOf v i → w ≡ rowIn u form.objectSection (a ∷ b ∷ c ∷ []) → w ≡ rowIn u form.objectSection (objectRow v i)
 object-is v i a b c u w p q r z = z ∙ rw (p, q, r)
 
 pub ruleset objects = (object-is, needs)

@@ -9,21 +9,21 @@ use borrow.Author.Needs.{needs}
 use lib.ListN.{length, replicate, length-replicate}
 use Rattle.records.specs.Cells.{sectionIn, countIn, putIn, addIn}
 use Rattle.grammar.proofs.ReadLaws.{length-put, length-add}
-use Rattle.tables.specs.Form.{sections}
+use Rattle.tables.specs.Form.{tableSections}
 use Rattle.build.specs.Build.{rowsBelow}
 use Rattle.build.specs.Row.{putsAt, opened, rowIn, rowsIn}
 
-module _ (j i k a b : ℕ) (t t₁ t₂ : List ℕ) (p : t₁ ≡ putIn t (sectionIn sections j) i k a) (q : t₂ ≡ putIn t₁ (sectionIn sections j) i (k + 1) b) where
+module _ (j i k a b : ℕ) (t t₁ t₂ : List ℕ) (p : t₁ ≡ putIn t (sectionIn tableSections j) i k a) (q : t₂ ≡ putIn t₁ (sectionIn tableSections j) i (k + 1) b) where
   pub two-is : t₂ ≡ putsAt t j i k (a ∷ b ∷ [])
   unfolding putsAt
   two-is = q ∙ rw (p, add-one k)
 
-  module _ (c : ℕ) (t₃ : List ℕ) (r : t₃ ≡ putIn t₂ (sectionIn sections j) i (k + 2) c) where
+  module _ (c : ℕ) (t₃ : List ℕ) (r : t₃ ≡ putIn t₂ (sectionIn tableSections j) i (k + 2) c) where
     pub three-is : t₃ ≡ putsAt t j i k (a ∷ b ∷ c ∷ [])
     unfolding putsAt
     three-is = let e : k + 2 ≡ suc (suc k) = omega arith in r ∙ rw (q, p, e, add-one k)
 
-    pub four-is : (d : ℕ) (t₄ : List ℕ) → t₄ ≡ putIn t₃ (sectionIn sections j) i (k + 3) d → t₄ ≡ putsAt t j i k (a ∷ b ∷ c ∷ d ∷ [])
+    pub four-is : (d : ℕ) (t₄ : List ℕ) → t₄ ≡ putIn t₃ (sectionIn tableSections j) i (k + 3) d → t₄ ≡ putsAt t j i k (a ∷ b ∷ c ∷ d ∷ [])
     unfolding putsAt
     four-is d t₄ s =
         let e : k + 2 ≡ suc (suc k) = omega arith in
@@ -42,19 +42,19 @@ unfolding putsAt
 puts-on t j i k [] ys = ap (λ n. putsAt t j i n ys) (sym (add-zero k))
 puts-on t j i k (x ∷ xs) ys =
     let e : suc k + length xs ≡ k + suc (length xs) = omega arith in
-    puts-on (putIn t (sectionIn sections j) i k x) j i (suc k) xs ys
-    ∙ ap (λ n. putsAt (putsAt (putIn t (sectionIn sections j) i k x) j i (suc k) xs) j i n ys) e
+    puts-on (putIn t (sectionIn tableSections j) i k x) j i (suc k) xs ys
+    ∙ ap (λ n. putsAt (putsAt (putIn t (sectionIn tableSections j) i k x) j i (suc k) xs) j i n ys) e
 
 -- ---- the number of cells stays
 
 pub length-puts : (t : List ℕ) (j i k : ℕ) (vs : List ℕ) → length (putsAt t j i k vs) ≡ length t
 unfolding putsAt
 length-puts t j i k [] = refl
-length-puts t j i k (v ∷ vs) = length-puts (putIn t (sectionIn sections j) i k v) j i (suc k) vs ∙ length-put t (sectionIn sections j) i k v
+length-puts t j i k (v ∷ vs) = length-puts (putIn t (sectionIn tableSections j) i k v) j i (suc k) vs ∙ length-put t (sectionIn tableSections j) i k v
 
 pub length-row : (t : List ℕ) (j : ℕ) (vs : List ℕ) → length (rowIn t j vs) ≡ length t
 unfolding rowIn
-length-row t j vs = length-puts (opened t j) j (countIn t (sectionIn sections j)) 0 vs ∙ length-add t (sectionIn sections j)
+length-row t j vs = length-puts (opened t j) j (countIn t (sectionIn tableSections j)) 0 vs ∙ length-add t (sectionIn tableSections j)
 
 pub length-rows : (t : List ℕ) (j : ℕ) (rs : List (List ℕ)) → length (rowsIn t j rs) ≡ length t
 unfolding rowsIn
@@ -77,12 +77,12 @@ module _ (t : List ℕ) (j i k m : ℕ) where
   unfolding putsAt
   zeroing-start = record { within = omega arith; long = refl; is = refl }
 
-  pub zeroing-on : (n : ℕ) (u w : List ℕ) → Zeroing t j i k m n u → n < m → w ≡ putIn u (sectionIn sections j) i (k + n) 0 → Zeroing t j i k m (n + 1) w
+  pub zeroing-on : (n : ℕ) (u w : List ℕ) → Zeroing t j i k m n u → n < m → w ≡ putIn u (sectionIn tableSections j) i (k + n) 0 → Zeroing t j i k m (n + 1) w
   unfolding putsAt
   zeroing-on n u w z h q =
       record {
         within = omega arith;
-        long = ap length q ∙ length-put u (sectionIn sections j) i (k + n) 0 ∙ z .long;
+        long = ap length q ∙ length-put u (sectionIn tableSections j) i (k + n) 0 ∙ z .long;
         is =
             let e : k + n ≡ k + length (replicate {A = ℕ} n 0) = ap (λ l. k + l) (sym (length-replicate n 0)) in
             q ∙ rw (z .is, e) (sym (rw (zeros-on n) (puts-on t j i k (replicate n 0) (0 ∷ []))));
@@ -94,7 +94,7 @@ module _ (t : List ℕ) (j i k m : ℕ) where
 pub ruleset zeroings = (zeroing-start, zeroing-on, zeroing-end, needs)
 
 -- a record is opened and its numbers are put
-pub row-is : (j i : ℕ) (vs u u₁ u₂ : List ℕ) → i ≡ countIn u (sectionIn sections j) → u₁ ≡ opened u j → u₂ ≡ putsAt u₁ j i 0 vs → u₂ ≡ rowIn u j vs
+pub row-is : (j i : ℕ) (vs u u₁ u₂ : List ℕ) → i ≡ countIn u (sectionIn tableSections j) → u₁ ≡ opened u j → u₂ ≡ putsAt u₁ j i 0 vs → u₂ ≡ rowIn u j vs
 unfolding rowIn
 row-is j i vs u u₁ u₂ p q r = r ∙ rw (q, p)
 

@@ -24,13 +24,13 @@ module _ (v : View) (i n : ℕ) (p : n ≡ v .counts table) where
 pub ruleset ends = (end-next, end-last, needs)
 
 pub table-is : (v : View) (i a e m b c : ℕ) (u w : List ℕ) → a ≡ v .slots table i 2 → e ≡ entriesEnd v i → m ≡ e - a → b ≡ v .slots table i 7 → c ≡ v .slots table i 8
-    → w ≡ rowIn u form.table (a ∷ m ∷ b ∷ c ∷ []) → w ≡ rowIn u form.table (tableRow v i)
+    → w ≡ rowIn u form.tableSection (a ∷ m ∷ b ∷ c ∷ []) → w ≡ rowIn u form.tableSection (tableRow v i)
 table-is v i a e m b c u w p q r s t z = z ∙ rw (r, q, p, s, t)
 
 pub ruleset tables = (table-is, needs)
 
 pub entry-is : (v : View) (i n a b c d : ℕ) (u w : List ℕ) → n ≡ v .slots entry i 0 → a ≡ min n 1 → b ≡ v .slots entry i 1 → c ≡ v .slots entry i 2 → d ≡ v .slots entry i 3
-    → w ≡ rowIn u form.entry (a ∷ b ∷ c ∷ d ∷ []) → w ≡ rowIn u form.entry (entryRow v i)
+    → w ≡ rowIn u form.entrySection (a ∷ b ∷ c ∷ d ∷ []) → w ≡ rowIn u form.entrySection (entryRow v i)
 entry-is v i n a b c d u w p q r s t z = z ∙ rw (q, p, r, s, t)
 
 pub ruleset entries = (entry-is, needs)

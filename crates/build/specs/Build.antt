@@ -76,16 +76,16 @@ unfoldable pub meaning : List ℕ → View → Source → ℕ → Bool → List 
 meaning x v s mask forbidden = methodIn x v s ∷ mask ∷ forbids v s forbidden ∷ limitCells v s
 
 -- data type, byte order, place in the image, points in x and y, room in x and y, walk: cells 0 to 7. Packed layouts hold equal numbers.
-abbrev pub standing : ℕ → Bool → ℕ → ℕ → ℕ → ℕ → List ℕ
-standing kind first place cx cy walk = kind ∷ flag first ∷ place ∷ cx ∷ cy ∷ cx ∷ cy ∷ walk ∷ []
+abbrev pub standingCells : ℕ → Bool → ℕ → ℕ → ℕ → ℕ → List ℕ
+standingCells kind first place cx cy walk = kind ∷ flag first ∷ place ∷ cx ∷ cy ∷ cx ∷ cy ∷ walk ∷ []
 
 -- a stored count's data type and place: cells 17 and 18
-abbrev pub counter : Entry → ℕ → List ℕ
-counter e place = cond (e .present) (e .kind) 0 ∷ cond (e .present) place 0 ∷ []
+abbrev pub counterCells : Entry → ℕ → List ℕ
+counterCells e place = cond (e .present) (e .kind) 0 ∷ cond (e .present) place 0 ∷ []
 
 -- a part that the object does not store
-abbrev pub noPart : List ℕ
-noPart = replicate 19 0
+abbrev pub noPartCells : List ℕ
+noPartCells = replicate 19 0
 
 -- "INDEX_DECR stores the axis's last point first"; "COLUMN_DIR: y runs fastest" (index mode has an effect in a MAP only)
 abbrev pub axisWalk : ℕ → ℕ
@@ -108,24 +108,24 @@ module _ (base : ℕ) (x : List ℕ) (v : View) (i : ℕ) (o : Known) where
   unfoldable pub xPart : List ℕ
   xPart =
       cond (o .need .x .stored)
-      (standing (o .layout .x .kind) (o .first) (o .places .x - base) (o .places .cx) 1 (axisWalk (v .slots layout (o .number) 18))
-      ++ (meaning x v (xSource v i) 0 false ++ counter (o .layout .nx) (o .places .nx - base)))
-      noPart
+      (standingCells (o .layout .x .kind) (o .first) (o .places .x - base) (o .places .cx) 1 (axisWalk (v .slots layout (o .number) 18))
+      ++ (meaning x v (xSource v i) 0 false ++ counterCells (o .layout .nx) (o .places .nx - base)))
+      noPartCells
 
   unfoldable pub yPart : List ℕ
   yPart =
       cond (o .need .y .stored)
-      (standing (o .layout .y .kind) (o .first) (o .places .y - base) (o .places .cy) 1 (axisWalk (v .slots layout (o .number) 23))
-      ++ (meaning x v (ofAxis (axisAt v i 1)) 0 false ++ counter (o .layout .ny) (o .places .ny - base)))
-      noPart
+      (standingCells (o .layout .y .kind) (o .first) (o .places .y - base) (o .places .cy) 1 (axisWalk (v .slots layout (o .number) 23))
+      ++ (meaning x v (ofAxis (axisAt v i 1)) 0 false ++ counterCells (o .layout .ny) (o .places .ny - base)))
+      noPartCells
 
   -- "MEASUREMENT or READ_ONLY" is not written
   unfoldable pub valuesPart : List ℕ
   valuesPart =
       cond (o .need .values)
-      (standing (o .layout .values .kind) (o .first) (o .places .values - base) (o .places .cx) (o .places .cy) (valuesWalk v i (o .number))
+      (standingCells (o .layout .values .kind) (o .first) (o .places .values - base) (o .places .cx) (o .places .cy) (valuesWalk v i (o .number))
       ++ (meaning x v (ofObject i) (maskOf v i) (eqb (whatOf v i) MEASUREMENT) ++ (0 ∷ 0 ∷ [])))
-      noPart
+      noPartCells
 
 module _ (image : List ℕ) (base : ℕ) (x : List ℕ) (v : View) where
   -- what is known of object i
@@ -164,9 +164,9 @@ abbrev pub numberCells : ℤ → List ℕ
 numberCells z = flag (isBelow z) ∷ natAbs z ∷ []
 
 -- (the conversions have been judged: there are coefficients)
-abbrev pub wholeOf : Answer Coefficients → Coefficients
-wholeOf (given k) = k
-wholeOf (refused n) = identicalOf
+abbrev pub coefficientsIn : Answer Coefficients → Coefficients
+coefficientsIn (given k) = k
+coefficientsIn (refused n) = identicalOf
 
 -- IDENTICAL, LINEAR or RAT_FUNC
 unfoldable pub conversionOf : View → ℕ → ℕ
@@ -176,7 +176,7 @@ abbrev pub coefficientCells : Coefficients → List ℕ
 coefficientCells k = numberCells (k .b) ++ (numberCells (k .c) ++ (numberCells (k .e) ++ numberCells (k .f)))
 
 abbrev pub fractionRow : View → ℕ → List ℕ
-fractionRow v i = conversionOf v i ∷ coefficientCells (wholeOf (coefficients v i)) ++ (0 ∷ [])
+fractionRow v i = conversionOf v i ∷ coefficientCells (coefficientsIn (coefficients v i)) ++ (0 ∷ [])
 
 -- "TAB_VERB with COMPU_TAB_REF to a COMPU_VTAB": the table's number and one more
 abbrev pub tableNumber : List ℕ → View → ℕ → ℕ

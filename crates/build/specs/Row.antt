@@ -5,22 +5,22 @@ use mathlib.Core.List.{List, [], _∷_}
 use Rattle.records.specs.Cells.{sectionIn, countIn, putIn, addIn}
 use Rattle.rows.specs.Sections.{layout}
 use Rattle.grammar.specs.Move.{View}
-use Rattle.tables.specs.Form.{sections}
+use Rattle.tables.specs.Form.{tableSections}
 use Rattle.build.specs.Build.{axisWalk}
 use Rattle.build.specs.declared.part.Spot.{Spot}
 
 -- numbers put into record i of section j from slot k on
 unfoldable pub putsAt : List ℕ → ℕ → ℕ → ℕ → List ℕ → List ℕ
 putsAt t j i k [] = t
-putsAt t j i k (v ∷ vs) = putsAt (putIn t (sectionIn sections j) i k v) j i (suc k) vs
+putsAt t j i k (v ∷ vs) = putsAt (putIn t (sectionIn tableSections j) i k v) j i (suc k) vs
 
 -- a record more in section j
 abbrev pub opened : List ℕ → ℕ → List ℕ
-opened t j = addIn t (sectionIn sections j)
+opened t j = addIn t (sectionIn tableSections j)
 
 -- a record more in section j, with these numbers
 unfoldable pub rowIn : List ℕ → ℕ → List ℕ → List ℕ
-rowIn t j vs = putsAt (opened t j) j (countIn t (sectionIn sections j)) 0 vs
+rowIn t j vs = putsAt (opened t j) j (countIn t (sectionIn tableSections j)) 0 vs
 
 -- row after row
 unfoldable pub rowsIn : List ℕ → ℕ → List (List ℕ) → List ℕ

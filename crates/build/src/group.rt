@@ -29,7 +29,7 @@ ghost use mathlib.Core.List.{[], _∷_};
 ghost use Prim.Native.Nat.{_-_};
 ghost use Rattle.rows.specs.Sections.{object};
 ghost use Rattle.grammar.specs.Move.{viewIn};
-ghost use Rattle.tables.specs.Form.{group};
+ghost use Rattle.tables.specs.Form.{groupSection};
 ghost use Rattle.build.specs.Build.{ofObject, ofAxis, xSource, valuesWalk, maskOf, xPart, yPart, valuesPart, knownOf, groupsBelow};
 ghost use Rattle.build.specs.Row.{rowIn, rowsIn, axisSpot};
 
@@ -142,7 +142,7 @@ fn axis_spot(
 
 // The x points of object i.
 fn put_x(u: &mut [u64], x: &[u8], t: &[u64], base: u32, i: u16, o: Known)
-    ensures { λ _. ⌜ now (u .exit) ≡ rowIn (now (u .entry)) group (xPart base (now (x .entry)) (viewIn (now (t .entry))) i o) ⌝ }
+    ensures { λ _. ⌜ now (u .exit) ≡ rowIn (now (u .entry)) groupSection (xPart base (now (x .entry)) (viewIn (now (t .entry))) i o) ⌝ }
 {
     let need = o.need;
     let axis = need.x;
@@ -162,7 +162,7 @@ fn put_x(u: &mut [u64], x: &[u8], t: &[u64], base: u32, i: u16, o: Known)
 
 // The y points of object i.
 fn put_y(u: &mut [u64], x: &[u8], t: &[u64], base: u32, i: u16, o: Known)
-    ensures { λ _. ⌜ now (u .exit) ≡ rowIn (now (u .entry)) group (yPart base (now (x .entry)) (viewIn (now (t .entry))) i o) ⌝ }
+    ensures { λ _. ⌜ now (u .exit) ≡ rowIn (now (u .entry)) groupSection (yPart base (now (x .entry)) (viewIn (now (t .entry))) i o) ⌝ }
 {
     let need = o.need;
     let axis = need.y;
@@ -201,7 +201,7 @@ fn values_spot(t: &[u64], i: u16, base: u32, o: Known) -> Spot
 
 // The values of object i.
 fn put_values_of(u: &mut [u64], x: &[u8], t: &[u64], base: u32, i: u16, o: Known)
-    ensures { λ _. ⌜ now (u .exit) ≡ rowIn (now (u .entry)) group (valuesPart base (now (x .entry)) (viewIn (now (t .entry))) i o) ⌝ }
+    ensures { λ _. ⌜ now (u .exit) ≡ rowIn (now (u .entry)) groupSection (valuesPart base (now (x .entry)) (viewIn (now (t .entry))) i o) ⌝ }
 {
     let need = o.need;
     if need.values {
@@ -224,7 +224,7 @@ fn put_values_of(u: &mut [u64], x: &[u8], t: &[u64], base: u32, i: u16, o: Known
 
 // The parts of object i.
 fn put_parts(u: &mut [u64], x: &[u8], t: &[u64], base: u32, i: u16, o: Known)
-    ensures { λ _. ⌜ now (u .exit) ≡ rowsIn (now (u .entry)) group (xPart base (now (x .entry)) (viewIn (now (t .entry))) i o ∷ yPart base (now (x .entry)) (viewIn (now (t .entry))) i o ∷ valuesPart base (now (x .entry)) (viewIn (now (t .entry))) i o ∷ []) ⌝ }
+    ensures { λ _. ⌜ now (u .exit) ≡ rowsIn (now (u .entry)) groupSection (xPart base (now (x .entry)) (viewIn (now (t .entry))) i o ∷ yPart base (now (x .entry)) (viewIn (now (t .entry))) i o ∷ valuesPart base (now (x .entry)) (viewIn (now (t .entry))) i o ∷ []) ⌝ }
 {
     put_x(u, x, t, base, i, o);
     put_y(u, x, t, base, i, o);
@@ -233,7 +233,7 @@ fn put_parts(u: &mut [u64], x: &[u8], t: &[u64], base: u32, i: u16, o: Known)
 
 // The groups of all objects.
 pub fn put_groups(u: &mut [u64], image: &[u8], base: u32, x: &[u8], t: &[u64])
-    ensures { λ _. ⌜ now (u .exit) ≡ rowsIn (now (u .entry)) group (groupsBelow (now (image .entry)) base (now (x .entry)) (viewIn (now (t .entry))) (viewIn (now (t .entry)) .counts object)) ⌝ }
+    ensures { λ _. ⌜ now (u .exit) ≡ rowsIn (now (u .entry)) groupSection (groupsBelow (now (image .entry)) base (now (x .entry)) (viewIn (now (t .entry))) (viewIn (now (t .entry)) .counts object)) ⌝ }
 {
     let count = count_of(t, OBJECT);
     let mut i: u16 = 0;

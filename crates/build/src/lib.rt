@@ -18,13 +18,13 @@ ghost use Prim.Native.Nat.{_≤_};
 ghost use lib.ListN.{length, replicate};
 ghost use Rattle.records.specs.Cells.{room, encode};
 ghost use Rattle.grammar.specs.Move.{viewIn};
-ghost use Rattle.tables.specs.Form.{sections};
+ghost use Rattle.tables.specs.Form.{tableSections};
 ghost use Rattle.build.specs.Build.{built};
 
 // Fills the tables, which are zeros, with what calls need of the records t and of where the objects stand.
 pub fn build(image: &[u8], base: u32, x: &[u8], t: &[u64], u: &mut [u64], elements: u32)
-    requires { ⌜ (now u ≡ replicate (length (now u)) 0) × (room sections ≤ length (now u)) ⌝ }
-    ensures { λ _. ⌜ now (u .exit) ≡ encode sections (length (now (u .entry))) (built (now (image .entry)) base (now (x .entry)) (viewIn (now (t .entry))) elements) ⌝ }
+    requires { ⌜ (now u ≡ replicate (length (now u)) 0) × (room tableSections ≤ length (now u)) ⌝ }
+    ensures { λ _. ⌜ now (u .exit) ≡ encode tableSections (length (now (u .entry))) (built (now (image .entry)) base (now (x .entry)) (viewIn (now (t .entry))) elements) ⌝ }
 {
     put_row_of_three(u, HEAD, 0, 0, elements as u64);
     put_objects(u, t);

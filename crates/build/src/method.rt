@@ -24,7 +24,7 @@ ghost use Rattle.convert.specs.Told.{toldMethod};
 ghost use Rattle.rows.specs.Sections.{method};
 ghost use Rattle.grammar.specs.Move.{viewIn};
 ghost use Rattle.tables.specs.Form as form;
-ghost use Rattle.build.specs.Build.{rowsBelow, isBelow, numberCells, wholeOf, conversionOf, coefficientCells, fractionRow, tableNumber, verbalRow, methodRow};
+ghost use Rattle.build.specs.Build.{rowsBelow, isBelow, numberCells, coefficientsIn, conversionOf, coefficientCells, fractionRow, tableNumber, verbalRow, methodRow};
 ghost use Rattle.build.specs.Row.{putsAt, rowIn, rowsIn};
 
 // Whether a number is below zero.
@@ -36,7 +36,7 @@ fn is_below(z: i64) -> bool
 
 // A whole number's two cells into method m from slot k on.
 fn put_whole(u: &mut [u64], m: u16, k: u8, z: i64)
-    ensures { λ _. ⌜ now (u .exit) ≡ putsAt (now (u .entry)) form.method m k (numberCells z) ⌝ }
+    ensures { λ _. ⌜ now (u .exit) ≡ putsAt (now (u .entry)) form.methodSection m k (numberCells z) ⌝ }
 {
     let sign = flag_of(is_below(z));
     let most = size(z);
@@ -45,7 +45,7 @@ fn put_whole(u: &mut [u64], m: u16, k: u8, z: i64)
 
 // The coefficients into method m.
 fn put_coefficients(u: &mut [u64], m: u16, k: Coefficients)
-    ensures { λ _. ⌜ now (u .exit) ≡ putsAt (now (u .entry)) form.method m 1 (coefficientCells k) ⌝ }
+    ensures { λ _. ⌜ now (u .exit) ≡ putsAt (now (u .entry)) form.methodSection m 1 (coefficientCells k) ⌝ }
 {
     put_whole(u, m, 1, k.b);
     put_whole(u, m, 3, k.c);
@@ -55,7 +55,7 @@ fn put_coefficients(u: &mut [u64], m: u16, k: Coefficients)
 
 // The coefficients that there are.
 fn whole_of(a: MethodAnswer) -> Coefficients
-    ensures { λ r. ⌜ r ≡ wholeOf (toldMethod a) ⌝ }
+    ensures { λ r. ⌜ r ≡ coefficientsIn (toldMethod a) ⌝ }
 {
     match a {
         MethodAnswer::Whole(k) => k,
@@ -79,7 +79,7 @@ fn conversion_of(t: &[u64], i: u16) -> u64
 
 // The row of method i, which makes fractions.
 fn put_fraction(u: &mut [u64], t: &[u64], i: u16)
-    ensures { λ _. ⌜ now (u .exit) ≡ rowIn (now (u .entry)) form.method (fractionRow (viewIn (now (t .entry))) i) ⌝ }
+    ensures { λ _. ⌜ now (u .exit) ≡ rowIn (now (u .entry)) form.methodSection (fractionRow (viewIn (now (t .entry))) i) ⌝ }
 {
     let conversion = conversion_of(t, i);
     let k = whole_of(coefficients_of(t, i));
@@ -100,7 +100,7 @@ fn table_number(x: &[u8], t: &[u64], i: u16) -> u64
 
 // The row of a method with the verbal table of a number.
 fn put_verbal(u: &mut [u64], table: u64)
-    ensures { λ _. ⌜ now (u .exit) ≡ rowIn (now (u .entry)) form.method (verbalRow table) ⌝ }
+    ensures { λ _. ⌜ now (u .exit) ≡ rowIn (now (u .entry)) form.methodSection (verbalRow table) ⌝ }
 {
     let m = open_row(u, tables::form::METHOD);
     put_slot(u, tables::form::METHOD, m, 0, TAB_VERB as u64);
@@ -110,7 +110,7 @@ fn put_verbal(u: &mut [u64], table: u64)
 
 // The row of method i.
 fn put_method(u: &mut [u64], x: &[u8], t: &[u64], i: u16)
-    ensures { λ _. ⌜ now (u .exit) ≡ rowIn (now (u .entry)) form.method (methodRow (now (x .entry)) (viewIn (now (t .entry))) i) ⌝ }
+    ensures { λ _. ⌜ now (u .exit) ≡ rowIn (now (u .entry)) form.methodSection (methodRow (now (x .entry)) (viewIn (now (t .entry))) i) ⌝ }
 {
     let word = slot_of(t, METHOD, i, 4);
     let table = table_number(x, t, i);
@@ -123,7 +123,7 @@ fn put_method(u: &mut [u64], x: &[u8], t: &[u64], i: u16)
 
 // The rows of all methods.
 pub fn put_methods(u: &mut [u64], x: &[u8], t: &[u64])
-    ensures { λ _. ⌜ now (u .exit) ≡ rowsIn (now (u .entry)) form.method (rowsBelow (viewIn (now (t .entry)) .counts method) (methodRow (now (x .entry)) (viewIn (now (t .entry))))) ⌝ }
+    ensures { λ _. ⌜ now (u .exit) ≡ rowsIn (now (u .entry)) form.methodSection (rowsBelow (viewIn (now (t .entry)) .counts method) (methodRow (now (x .entry)) (viewIn (now (t .entry))))) ⌝ }
 {
     let count = count_of(t, METHOD);
     let mut i: u16 = 0;

@@ -49,7 +49,7 @@ pub fn what_of(t: &[u64], i: u16) -> u64
 
 // The row of object i.
 fn put_object(u: &mut [u64], t: &[u64], i: u16)
-    ensures { λ _. ⌜ now (u .exit) ≡ rowIn (now (u .entry)) form.object (objectRow (viewIn (now (t .entry))) i) ⌝ }
+    ensures { λ _. ⌜ now (u .exit) ≡ rowIn (now (u .entry)) form.objectSection (objectRow (viewIn (now (t .entry))) i) ⌝ }
 {
     let from = slot_of(t, OBJECT, i, 0);
     let to = slot_of(t, OBJECT, i, 1);
@@ -59,7 +59,7 @@ fn put_object(u: &mut [u64], t: &[u64], i: u16)
 
 // The rows of all objects.
 pub fn put_objects(u: &mut [u64], t: &[u64])
-    ensures { λ _. ⌜ now (u .exit) ≡ rowsIn (now (u .entry)) form.object (rowsBelow (viewIn (now (t .entry)) .counts object) (objectRow (viewIn (now (t .entry))))) ⌝ }
+    ensures { λ _. ⌜ now (u .exit) ≡ rowsIn (now (u .entry)) form.objectSection (rowsBelow (viewIn (now (t .entry)) .counts object) (objectRow (viewIn (now (t .entry))))) ⌝ }
 {
     let count = count_of(t, OBJECT);
     let mut i: u16 = 0;

@@ -6,12 +6,12 @@ ghost use mathlib.Core.Path.{_≡_};
 ghost use mathlib.Core.List.{[], _∷_};
 ghost use lib.ListN.{replicate};
 ghost use Rattle.records.specs.Cells.{sectionIn, countIn};
-ghost use Rattle.tables.specs.Form.{sections};
+ghost use Rattle.tables.specs.Form.{tableSections};
 ghost use Rattle.build.specs.Row.{putsAt, opened, rowIn};
 
 // A record more in section j: its number.
 pub fn open_row(u: &mut [u64], j: u8) -> u16
-    ensures { λ r. ⌜ (r ≡ countIn (now (u .entry)) (sectionIn sections j)) × (now (u .exit) ≡ opened (now (u .entry)) j) ⌝ }
+    ensures { λ r. ⌜ (r ≡ countIn (now (u .entry)) (sectionIn tableSections j)) × (now (u .exit) ≡ opened (now (u .entry)) j) ⌝ }
 {
     let i = count_of(u, j);
     add_record(u, j);

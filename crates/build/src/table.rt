@@ -27,7 +27,7 @@ fn entries_end(t: &[u64], i: u16) -> u64
 
 // The row of table i.
 fn put_table(u: &mut [u64], t: &[u64], i: u16)
-    ensures { λ _. ⌜ now (u .exit) ≡ rowIn (now (u .entry)) form.table (tableRow (viewIn (now (t .entry))) i) ⌝ }
+    ensures { λ _. ⌜ now (u .exit) ≡ rowIn (now (u .entry)) form.tableSection (tableRow (viewIn (now (t .entry))) i) ⌝ }
 {
     let first = slot_of(t, TABLE, i, 2);
     let many = minus(entries_end(t, i), first);
@@ -38,7 +38,7 @@ fn put_table(u: &mut [u64], t: &[u64], i: u16)
 
 // The rows of all tables.
 pub fn put_tables(u: &mut [u64], t: &[u64])
-    ensures { λ _. ⌜ now (u .exit) ≡ rowsIn (now (u .entry)) form.table (rowsBelow (viewIn (now (t .entry)) .counts table) (tableRow (viewIn (now (t .entry))))) ⌝ }
+    ensures { λ _. ⌜ now (u .exit) ≡ rowsIn (now (u .entry)) form.tableSection (rowsBelow (viewIn (now (t .entry)) .counts table) (tableRow (viewIn (now (t .entry))))) ⌝ }
 {
     let count = count_of(t, TABLE);
     let mut i: u16 = 0;
@@ -57,7 +57,7 @@ fn least_one(n: u64) -> u64
 
 // The row of entry i.
 fn put_entry(u: &mut [u64], t: &[u64], i: u16)
-    ensures { λ _. ⌜ now (u .exit) ≡ rowIn (now (u .entry)) form.entry (entryRow (viewIn (now (t .entry))) i) ⌝ }
+    ensures { λ _. ⌜ now (u .exit) ≡ rowIn (now (u .entry)) form.entrySection (entryRow (viewIn (now (t .entry))) i) ⌝ }
 {
     let sign = least_one(slot_of(t, ENTRY, i, 0));
     let size = slot_of(t, ENTRY, i, 1);
@@ -68,7 +68,7 @@ fn put_entry(u: &mut [u64], t: &[u64], i: u16)
 
 // The rows of all entries.
 pub fn put_entries(u: &mut [u64], t: &[u64])
-    ensures { λ _. ⌜ now (u .exit) ≡ rowsIn (now (u .entry)) form.entry (rowsBelow (viewIn (now (t .entry)) .counts entry) (entryRow (viewIn (now (t .entry))))) ⌝ }
+    ensures { λ _. ⌜ now (u .exit) ≡ rowsIn (now (u .entry)) form.entrySection (rowsBelow (viewIn (now (t .entry)) .counts entry) (entryRow (viewIn (now (t .entry))))) ⌝ }
 {
     let count = count_of(t, ENTRY);
     let mut i: u16 = 0;

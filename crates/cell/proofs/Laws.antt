@@ -18,7 +18,7 @@ use Rattle.cell.specs.declared.kind.Shape.{Shape}
 use Rattle.cell.specs.Bytes.{number, digits, ordered, storedAt, withStored}
 use Rattle.cell.specs.Mask.{shifted, fitsMask, outside, inserted}
 use Rattle.cell.specs.Sign.{typed, fitsType, bitsOf}
-use Rattle.cell.specs.Raw.{rawOf, fitsRaw, storedWith, inside, rawAt, written}
+use Rattle.cell.specs.Raw.{rawOf, fitsRaw, storedWith, isInside, rawAt, written}
 use Rattle.cell.proofs.Stored.{get-put, length-ordered, length-digits}
 use Rattle.cell.proofs.Masks.{masked-inserted, masked-le, kept}
 use Rattle.cell.proofs.Types.{clash, typed-bits, power-le, down}
@@ -132,12 +132,12 @@ module _ (first : Bool) (p : ℕ) (t : Shape) (mask : ℕ) (z : ℤ) (s : List �
   pub either : (P : List ℕ → Type 0) → P s → (fitsRaw t mask z ≡ true → p + t .bytes ≤ length s → P new) → P (written first p t mask z s)
   either P k f = byFit (fitsRaw t mask z) refl
     where
-      byPlace : (b : Bool) → inside p (t .bytes) s ≡ b → fitsRaw t mask z ≡ true → P (written first p t mask z s)
+      byPlace : (b : Bool) → isInside p (t .bytes) s ≡ b → fitsRaw t mask z ≡ true → P (written first p t mask z s)
       byPlace true e y = let l = leb-true (p + t .bytes) (length s) e in subst P (sym (written-is y l)) (f y l)
       byPlace false e y = subst P (write-out first p t mask s z (sym e) refl) k
 
       byFit : (b : Bool) → fitsRaw t mask z ≡ b → P (written first p t mask z s)
-      byFit true y = byPlace (inside p (t .bytes) s) refl y
+      byFit true y = byPlace (isInside p (t .bytes) s) refl y
       byFit false y = subst P (sym (unfit-kept first p t mask s z y)) k
 
   new-length : p + t .bytes ≤ length s → length new ≡ length s
@@ -191,7 +191,7 @@ module _ (first : Bool) (p : ℕ) (t : Shape) (mask : ℕ) where
   pub reads-alone : (s r : List ℕ) → length s ≡ length r → ((i : ℕ) → p ≤ i → i < p + t .bytes → getD s i 0 ≡ getD r i 0) → rawAt first p t mask s ≡ rawAt first p t mask r
   unfolding rawAt
   reads-alone s r e h =
-      rw e (ap (λ (x : List ℕ). cond (inside p (t .bytes) r) (rawOf t mask (number (ordered first x))) (pos 0))
+      rw e (ap (λ (x : List ℕ). cond (isInside p (t .bytes) r) (rawOf t mask (number (ordered first x))) (pos 0))
       (ext-getD 0 (take (t .bytes) (drop p s)) (take (t .bytes) (drop p r)) same-length same-byte))
     where
       same-length : length (take (t .bytes) (drop p s)) ≡ length (take (t .bytes) (drop p r))
@@ -225,8 +225,8 @@ of-small t (suc m) n l h = omega (arith, masked-le n (suc m), power-le (t .bytes
 
 pub raw-small : (first : Bool) (p : ℕ) (t : Shape) (mask : ℕ) (s : List ℕ) → t .bytes ≤ 4 → ((i : ℕ) → getD s i 0 < 256) → natAbs (rawAt first p t mask s) < 2 ^ 32
 unfolding rawAt
-raw-small first p t mask s l b = go (inside p (t .bytes) s) refl
+raw-small first p t mask s l b = go (isInside p (t .bytes) s) refl
   where
-    go : (x : Bool) → inside p (t .bytes) s ≡ x → natAbs (cond x (rawOf t mask (storedAt first p (t .bytes) s)) (pos 0)) < 2 ^ 32
+    go : (x : Bool) → isInside p (t .bytes) s ≡ x → natAbs (cond x (rawOf t mask (storedAt first p (t .bytes) s)) (pos 0)) < 2 ^ 32
     go true e = of-small t mask (storedAt first p (t .bytes) s) l (stored-lt first p (t .bytes) s b (leb-true (p + t .bytes) (length s) e))
     go false e = omega arith

@@ -13,7 +13,7 @@ use Rattle.cell.specs.declared.kind.Shape.{Shape}
 use Rattle.cell.specs.Mask.{masked, fitsMask, inserted}
 use Rattle.cell.specs.Sign.{typed, fitsType, bitsOf}
 use Rattle.cell.specs.Bytes.{storedAt, withStored}
-use Rattle.cell.specs.Raw.{rawOf, fitsRaw, storedWith, inside, rawAt, written}
+use Rattle.cell.specs.Raw.{rawOf, fitsRaw, storedWith, isInside, rawAt, written}
 use Rattle.cell.proofs.Types.{clash, not-below, fits-below}
 
 -- ---- no mask
@@ -76,21 +76,21 @@ end-inside n p w h = go (leb w (n - p)) refl
 
 -- ---- reading and writing at a place
 module _ (first : Bool) (p : ℕ) (t : Shape) (mask : ℕ) (s : List ℕ) where
-  pub read-in : {b : Bool} {n : ℕ} → b ≡ inside p (t .bytes) s → b ≡ true → n ≡ storedAt first p (t .bytes) s → rawOf t mask n ≡ rawAt first p t mask s
+  pub read-in : {b : Bool} {n : ℕ} → b ≡ isInside p (t .bytes) s → b ≡ true → n ≡ storedAt first p (t .bytes) s → rawOf t mask n ≡ rawAt first p t mask s
   unfolding rawAt
   read-in e y h = rw (sym e ∙ y) (ap (rawOf t mask) h)
 
-  pub read-out : {b : Bool} → b ≡ inside p (t .bytes) s → b ≡ false → pos 0 ≡ rawAt first p t mask s
+  pub read-out : {b : Bool} → b ≡ isInside p (t .bytes) s → b ≡ false → pos 0 ≡ rawAt first p t mask s
   unfolding rawAt
   read-out e y = rw (sym e ∙ y)
 
-  pub write-in : (z : ℤ) {b : Bool} {old n : ℕ} → fitsRaw t mask z ≡ true → b ≡ inside p (t .bytes) s → b ≡ true
+  pub write-in : (z : ℤ) {b : Bool} {old n : ℕ} → fitsRaw t mask z ≡ true → b ≡ isInside p (t .bytes) s → b ≡ true
       → old ≡ storedAt first p (t .bytes) s → n ≡ storedWith t mask old z → withStored first p (t .bytes) n s ≡ written first p t mask z s
   unfolding written
   write-in z f e y h k =
       rw (f, sym e ∙ y) (ap (λ (m : ℕ). withStored first p (t .bytes) m s) (k ∙ ap (λ (o : ℕ). storedWith t mask o z) h))
 
-  pub write-out : (z : ℤ) {b : Bool} → b ≡ inside p (t .bytes) s → b ≡ false → s ≡ written first p t mask z s
+  pub write-out : (z : ℤ) {b : Bool} → b ≡ isInside p (t .bytes) s → b ≡ false → s ≡ written first p t mask z s
   unfolding written
   write-out z e y = rw (sym e ∙ y) (sym (never (fitsRaw t mask z) _))
     where
@@ -104,5 +104,5 @@ module _ (first : Bool) (p : ℕ) (t : Shape) (mask : ℕ) (s : List ℕ) where
   unfit-kept z f = rw f
 
 -- where the bytes are inside, they end inside
-pub inside-le : (p w : ℕ) (s : List ℕ) {b : Bool} → b ≡ inside p w s → b ≡ true → p + w ≤ length s
+pub inside-le : (p w : ℕ) (s : List ℕ) {b : Bool} → b ≡ isInside p w s → b ≡ true → p + w ≤ length s
 inside-le p w s e y = leb-true (p + w) (length s) (sym e ∙ y)

@@ -9,7 +9,7 @@ use native.Mathlib.Omega.{arith}
 use lib.Dec.{lit<}
 use lib.ListN.{length, take, drop, getD, set, length-take, length-drop, length-set, length-reverse, drop-of-length-le, take-append-drop}
 use lib.Seq.{drop-cons, take-suc, take-all, getD-take, getD-drop, take-suc-set, take-set-le, drop-set-lt, set-split, drop-at, take-at}
-use Rattle.cell.specs.Bytes.{number, digits, ordered, storedAt, withStored, placeOf}
+use Rattle.cell.specs.Bytes.{number, digits, ordered, storedAt, withStored, bytePlace}
 
 part-length : (p w : ℕ) (s : List ℕ) → p + w ≤ length s → length (take w (drop p s)) ≡ w
 part-length p w s h = simp (length-take, length-drop) (omega arith)
@@ -40,7 +40,7 @@ part-at : (p w i : ℕ) (s : List ℕ) → i < w → getD (take w (drop p s)) i 
 part-at p w i s h = rw (getD-take, getD-drop)
 
 pub top-more : (first : Bool) (p w i : ℕ) (s : List ℕ) → p + w ≤ length s → i < w
-    → number (top first w (i + 1) (take w (drop p s))) ≡ number (top first w i (take w (drop p s))) * 256 + getD s (placeOf first p w i) 0
+    → number (top first w (i + 1) (take w (drop p s))) ≡ number (top first w i (take w (drop p s))) * 256 + getD s (bytePlace first p w i) 0
 top-more true p w i s h k = rw (← part-at p w i s k) (front-more (take w (drop p s)) i (omega (arith, part-length p w s h)))
 top-more false p w i s h k =
     let e : w - i ≡ w - 1 - i + 1 = omega arith in
@@ -50,7 +50,7 @@ top-more false p w i s h k =
 -- ---- writing: k bytes are left to store, the least of m first
 unfoldable pub storing : Bool → ℕ → ℕ → ℕ → ℕ → List ℕ → List ℕ
 storing first p w zero m s = s
-storing first p w (suc k) m s = storing first p w k (m / 256) (set s (placeOf (not first) p w (w - suc k)) (m % 256))
+storing first p w (suc k) m s = storing first p w k (m / 256) (set s (bytePlace (not first) p w (w - suc k)) (m % 256))
 
 drop-set : (j b : ℕ) (s : List ℕ) → j < length s → drop j (set s j b) ≡ b ∷ drop (suc j) s
 drop-set j b s h = rw (set-split s j b h) (drop-at (take j s) (b ∷ drop (suc j) s) j (simp length-take (omega arith)))
@@ -124,17 +124,17 @@ small i n h k = lt-of-lt-of-le h (pow-le-pow-right (lit< tt) {j = 3} (omega arit
 pub grows : (i n b : ℕ) → n < 256 ^ i → b < 256 → n * 256 + b < 256 ^ (i + 1)
 grows i n b h k = rw (add-one, pow-suc) (omega arith)
 
-pub place-in : (first : Bool) (p w i : ℕ) → i < w → placeOf first p w i < p + w
+pub place-in : (first : Bool) (p w i : ℕ) → i < w → bytePlace first p w i < p + w
 place-in true p w i h = omega arith
 place-in false p w i h = omega arith
 
 pub storing-step : (first : Bool) (p w i m : ℕ) (s : List ℕ) → i < w
-    → storing first p w (w - (i + 1)) (m / 256) (set s (placeOf (not first) p w i) (m % 256)) ≡ storing first p w (w - i) m s
+    → storing first p w (w - (i + 1)) (m / 256) (set s (bytePlace (not first) p w i) (m % 256)) ≡ storing first p w (w - i) m s
 unfolding storing
 storing-step first p w i m s h =
     let e : w - i ≡ suc (w - (i + 1)) = omega arith in
     let g : w - suc (w - (i + 1)) ≡ i = omega arith in
-    sym (ap (λ (k : ℕ). storing first p w k m s) e ∙ ap (λ (j : ℕ). storing first p w (w - (i + 1)) (m / 256) (set s (placeOf (not first) p w j) (m % 256))) g)
+    sym (ap (λ (k : ℕ). storing first p w k m s) e ∙ ap (λ (j : ℕ). storing first p w (w - (i + 1)) (m / 256) (set s (bytePlace (not first) p w j) (m % 256))) g)
 
 pub storing-done : (first : Bool) (p w i m : ℕ) (s : List ℕ) → w ≤ i → s ≡ storing first p w (w - i) m s
 unfolding storing

@@ -28,6 +28,6 @@ abbrev pub withStored : Bool → ℕ → ℕ → ℕ → List ℕ → List ℕ
 withStored first p w n s = take p s ++ ordered first (digits w n) ++ drop (p + w) s
 
 -- The place of the byte with i more significant bytes above it.
-abbrev pub placeOf : Bool → ℕ → ℕ → ℕ → ℕ
-placeOf true p w i = p + i
-placeOf false p w i = p + (w - 1 - i)
+abbrev pub bytePlace : Bool → ℕ → ℕ → ℕ → ℕ
+bytePlace true p w i = p + i
+bytePlace false p w i = p + (w - 1 - i)

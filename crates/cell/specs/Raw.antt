@@ -27,16 +27,16 @@ storedWith t zero old z = bitsOf (t .bytes) z
 storedWith t (suc m) old z = inserted old (suc m) (natAbs z)
 
 -- The w bytes at place p are bytes of the image.
-abbrev pub inside : ℕ → ℕ → List ℕ → Bool
-inside p w s = leb (p + w) (length s)
+abbrev pub isInside : ℕ → ℕ → List ℕ → Bool
+isInside p w s = leb (p + w) (length s)
 
 -- The raw number of the element at place p; 0 where a byte of it lies outside the image.
 unfoldable pub rawAt : Bool → ℕ → Shape → ℕ → List ℕ → ℤ
-rawAt first p t mask s = cond (inside p (t .bytes) s) (rawOf t mask (storedAt first p (t .bytes) s)) (pos 0)
+rawAt first p t mask s = cond (isInside p (t .bytes) s) (rawOf t mask (storedAt first p (t .bytes) s)) (pos 0)
 
 -- The image after a raw write: changed where the number fits and the element is inside, and else as it was.
 unfoldable pub written : Bool → ℕ → Shape → ℕ → ℤ → List ℕ → List ℕ
 written first p t mask z s =
-    cond (fitsRaw t mask z && inside p (t .bytes) s)
+    cond (fitsRaw t mask z && isInside p (t .bytes) s)
     (withStored first p (t .bytes) (storedWith t mask (storedAt first p (t .bytes) s) z) s)
     s

@@ -3,12 +3,12 @@ ghost use mathlib.Core.Path.{_≡_};
 ghost use mathlib.Core.Bool.{not};
 ghost use Prim.Native.Nat.{_+_, _<_, _≤_, _^_, _*_};
 ghost use lib.ListN.{length};
-ghost use Rattle.cell.specs.Bytes.{storedAt, withStored, placeOf};
+ghost use Rattle.cell.specs.Bytes.{storedAt, withStored, bytePlace};
 
 // The place of the byte with i more significant bytes above it.
 fn place(first: bool, at: usize, width: usize, i: usize) -> usize
     requires { ⌜ (i < width) × (at + width < 2 ^ 64) ⌝ }
-    ensures { λ r. ⌜ r ≡ placeOf first at width i ⌝ }
+    ensures { λ r. ⌜ r ≡ bytePlace first at width i ⌝ }
 {
     if first {
         return at + i;

@@ -16,7 +16,7 @@ use Rattle.cell.proofs.Signed.{Is, back, is-fits, is-back, is-read, is-mul, is-
 use Rattle.convert.specs.declared.method.Coefficients.{Coefficients}
 use Rattle.convert.specs.Whole.{signedOf, allSmall, Small}
 use Rattle.convert.specs.Limit.{formed}
-use Rattle.convert.specs.Method.{sameProducts, sound, judged, timesTen, common, four, ratFuncAt, ratFunc, linearAt, linearOf}
+use Rattle.convert.specs.Method.{sameProducts, soundMethod, judgedMethod, timesTen, common, four, ratFuncAt, ratFunc, linearAt, linearOf}
 use Rattle.convert.proofs.Wholes.{is-equal, sized, abs-signed, left-true, right-true, small-told, product-fits}
 use Rattle.convert.proofs.Limits.{formed-facts, ten-le, ten-is, ten-fits}
 use Rattle.convert.proofs.LimitLaws.{formed-is}
@@ -35,21 +35,21 @@ pub products-same : (k : Coefficients) → Small k → eqb (ofZ w64 (back (k .b)
 products-same k s = is-equal (is-mul (is-read (k .b) (s .b) tt) (is-read (k .f) (s .f) tt)) (is-mul (is-read (k .c) (s .c) tt) (is-read (k .e) (s .e) tt)) tt tt
 
 module _ (k : Coefficients) (b : Bool) (e : b ≡ allSmall k) where
-  pub sound-is : (r : Bool) → b ≡ true → r ≡ sameProducts k → not r ≡ sound k
-  unfolding sound
+  pub sound-is : (r : Bool) → b ≡ true → r ≡ sameProducts k → not r ≡ soundMethod k
+  unfolding soundMethod
   sound-is r y h = rw (sym e ∙ y) (ap not h)
 
-  pub sound-not : b ≡ false → false ≡ sound k
-  unfolding sound
+  pub sound-not : b ≡ false → false ≡ soundMethod k
+  unfolding soundMethod
   sound-not y = rw (sym e ∙ y)
 
-module _ (k : Coefficients) (b : Bool) (e : b ≡ sound k) where
-  pub judged-is : b ≡ true → given k ≡ judged k
-  unfolding judged
+module _ (k : Coefficients) (b : Bool) (e : b ≡ soundMethod k) where
+  pub judged-is : b ≡ true → given k ≡ judgedMethod k
+  unfolding judgedMethod
   judged-is y = rw (sym e ∙ y)
 
-  pub judged-not : b ≡ false → refused 10 ≡ judged k
-  unfolding judged
+  pub judged-not : b ≡ false → refused 10 ≡ judgedMethod k
+  unfolding judgedMethod
   judged-not y = rw (sym e ∙ y)
 
 -- ---- a decimal made whole: y is what the machine reads back of z
@@ -114,7 +114,7 @@ module _ (b c e f : Decimal) (w x y z : Bool) where
         (larger-most (e .tens) (f .tens) n en (most e (third-formed e w x y z h ey)) (most f (fourth-formed f w x y z h ez)))
 
     -- v is the answer, and p to s are what the machine reads back of the four made whole, p′ to s′
-    pub rat-func-is : (p q r s p′ q′ r′ s′ : ℤ) (v : Answer Coefficients) → v ≡ judged (four p q r s)
+    pub rat-func-is : (p q r s p′ q′ r′ s′ : ℤ) (v : Answer Coefficients) → v ≡ judgedMethod (four p q r s)
         → p′ ≡ timesTen t (scaled b) → q′ ≡ timesTen t (scaled c) → r′ ≡ timesTen t (scaled e) → s′ ≡ timesTen t (scaled f)
         → p ≡ p′ → q ≡ q′ → r ≡ r′ → s ≡ s′
         → v ≡ ratFunc (scaled b) (scaled c) (scaled e) (scaled f)
@@ -123,7 +123,7 @@ module _ (b c e f : Decimal) (w x y z : Bool) where
         let k : t ≡ common (scaled b) (scaled c) (scaled e) (scaled f) = et ∙ ap₂ max em en in
         let g : (formed (scaled b) && formed (scaled c) && formed (scaled e) && formed (scaled f)) ≡ true = (λ i. sym ew i && sym ex i && sym ey i && sym ez i) ∙ h in
         ev ∙ rw g
-        (ap judged (fours (kp ∙ eb) (kq ∙ ec) (kr ∙ ee) (ks ∙ ef)) ∙ ap (λ (u : ℕ). judged (ratFuncAt u (scaled b) (scaled c) (scaled e) (scaled f))) k)
+        (ap judgedMethod (fours (kp ∙ eb) (kq ∙ ec) (kr ∙ ee) (ks ∙ ef)) ∙ ap (λ (u : ℕ). judgedMethod (ratFuncAt u (scaled b) (scaled c) (scaled e) (scaled f))) k)
 
   pub rat-func-not : (w && x && y && z) ≡ false → w ≡ formed (scaled b) → x ≡ formed (scaled c) → y ≡ formed (scaled e) → z ≡ formed (scaled f)
       → refused 10 ≡ ratFunc (scaled b) (scaled c) (scaled e) (scaled f)
@@ -147,12 +147,12 @@ module _ (a b : Decimal) (x y : Bool) where
       offset-fits = is-fits (is-turn offset) tt
 
       -- v is the answer, r is 10^t, and s is what the machine reads back of a made whole, s′
-      pub linear-is : (r : ℕ) (s s′ : ℤ) (v : Answer Coefficients) → v ≡ judged (four (toZ w64 r) (back (pos 0 -ℤ q)) (pos 0) s)
+      pub linear-is : (r : ℕ) (s s′ : ℤ) (v : Answer Coefficients) → v ≡ judgedMethod (four (toZ w64 r) (back (pos 0 -ℤ q)) (pos 0) s)
           → r ≡ 10 ^ t → s ≡ s′ → s′ ≡ timesTen t (scaled a) → v ≡ linearOf (scaled a) (scaled b)
       unfolding linearOf
       linear-is r s s′ v ev er ks es =
           ev ∙ rw (sym ex ∙ left-true x y h, sym ey ∙ right-true x y h)
-          (ap judged (fours (ten-is t r er two-most .same) (is-back (is-turn offset) tt .same) refl (ks ∙ es)) ∙ ap (λ (u : ℕ). judged (linearAt u (scaled a) (scaled b))) et)
+          (ap judgedMethod (fours (ten-is t r er two-most .same) (is-back (is-turn offset) tt .same) refl (ks ∙ es)) ∙ ap (λ (u : ℕ). judgedMethod (linearAt u (scaled a) (scaled b))) et)
 
   pub linear-not : (x && y) ≡ false → x ≡ formed (scaled a) → y ≡ formed (scaled b) → refused 10 ≡ linearOf (scaled a) (scaled b)
   unfolding linearOf

@@ -13,11 +13,11 @@ abbrev pub sameProducts : Coefficients → Bool
 sameProducts k = eqZ (k .b *ℤ k .f) (k .c *ℤ k .e)
 
 -- "10: b·f = c·e, or one of the four above 10^9"
-unfoldable pub sound : Coefficients → Bool
-sound k = allSmall k && not (sameProducts k)
+unfoldable pub soundMethod : Coefficients → Bool
+soundMethod k = allSmall k && not (sameProducts k)
 
-unfoldable pub judged : Coefficients → Answer Coefficients
-judged k = cond (sound k) (given k) (refused 10)
+unfoldable pub judgedMethod : Coefficients → Answer Coefficients
+judgedMethod k = cond (soundMethod k) (given k) (refused 10)
 
 -- A decimal times 10^t.
 abbrev pub timesTen : ℕ → Scaled → ℤ
@@ -37,14 +37,14 @@ ratFuncAt t b c e f = four (timesTen t b) (timesTen t c) (timesTen t e) (timesTe
 -- (A decimal that no text can write is no coefficient.)
 unfoldable pub ratFunc : Scaled → Scaled → Scaled → Scaled → Answer Coefficients
 ratFunc b c e f =
-    cond (formed b && formed c && formed e && formed f) (judged (ratFuncAt (common b c e f) b c e f)) (refused 10)
+    cond (formed b && formed c && formed e && formed f) (judgedMethod (ratFuncAt (common b c e f) b c e f)) (refused 10)
 
 -- "LINEAR, PHYS = a·INT + b, has b, c, e, f of 10^t, −B, 0, A, where A and B are a and b times 10^t."
 abbrev pub linearAt : ℕ → Scaled → Scaled → Coefficients
 linearAt t a b = four (pos (10 ^ t)) (negℤ (timesTen t b)) (pos 0) (timesTen t a)
 
 unfoldable pub linearOf : Scaled → Scaled → Answer Coefficients
-linearOf a b = cond (formed a && formed b) (judged (linearAt (max (a .tens) (b .tens)) a b)) (refused 10)
+linearOf a b = cond (formed a && formed b) (judgedMethod (linearAt (max (a .tens) (b .tens)) a b)) (refused 10)
 
 -- "IDENTICAL and NO_COMPU_METHOD are 1, 0, 0, 1."
 abbrev pub identicalOf : Coefficients

@@ -5,7 +5,7 @@ ghost use Prim.Native.Nat.{_≤_};
 ghost use Rattle.number.specs.Told.{scaled};
 ghost use Rattle.convert.specs.Whole.{Small, allSmall};
 ghost use Rattle.convert.specs.Limit.{formed};
-ghost use Rattle.convert.specs.Method.{timesTen, sameProducts, sound, judged, ratFunc, linearOf, identicalOf};
+ghost use Rattle.convert.specs.Method.{timesTen, sameProducts, soundMethod, judgedMethod, ratFunc, linearOf, identicalOf};
 ghost use Rattle.convert.specs.Told.{toldMethod};
 use crate::whole::is_formed;
 use crate::whole::larger;
@@ -53,7 +53,7 @@ fn same_products(k: Coefficients) -> bool
 
 // Whether four whole numbers are a conversion.
 pub fn is_sound(k: Coefficients) -> bool
-    ensures { λ r. ⌜ r ≡ sound k ⌝ }
+    ensures { λ r. ⌜ r ≡ soundMethod k ⌝ }
 {
     if all_small(k) {
         return !same_products(k);
@@ -63,7 +63,7 @@ pub fn is_sound(k: Coefficients) -> bool
 
 // Four whole numbers where they are a conversion, and else 10.
 fn judge(k: Coefficients) -> MethodAnswer
-    ensures { λ r. ⌜ toldMethod r ≡ judged k ⌝ }
+    ensures { λ r. ⌜ toldMethod r ≡ judgedMethod k ⌝ }
 {
     if is_sound(k) {
         return MethodAnswer::Whole(k);

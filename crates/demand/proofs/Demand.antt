@@ -27,8 +27,8 @@ use Rattle.tables.specs.Rule.{keepsRule}
 use Rattle.tables.specs.Sizes.{sizesFit}
 use Rattle.text.proofs.Within.{and-right}
 use Rattle.tables.proofs.Reading.{element-inside, total-is}
-use Rattle.look.specs.Element.{rawOf, touched}
-use Rattle.look.specs.Calls.{Lent, lentOf, lentBy, checked, searched, Reading, readingOf, reading, Kept, room, groups, hasRoom, remade, After, afterwards, making, rawNumber, Request, request, groupIn, judged, writing, lineAt, withImage}
+use Rattle.look.specs.Element.{rawIn, touched}
+use Rattle.look.specs.Calls.{Lent, lentOf, lentBy, checked, searched, Reading, readingOf, reading, Kept, room, groups, hasRoom, remade, After, afterwards, making, rawNumber, Request, request, groupIn, judgedRequest, writing, lineAt, withImage}
 use Rattle.look.specs.Steps.{refusalOf}
 use Rattle.demand.specs.Runs.{running}
 use Rattle.look.specs.Told.{toldSearch, toldRead, toldCall, after}
@@ -204,19 +204,19 @@ module _ (t : List ℕ) (n base : ℕ) where
         (λ z d. past-line t g (q .index) k z j (rw (total-is n (length (k .image)) t (accepted t (lentBy n base k) (hasRoom t k) q z d .rule)) at l))
 
     -- ---- an accepted write is read back: z is the raw number that the judgement gave, for a physical value the nearest one
-    pub reads-as-written : (z : ℤ) → judged t (lentBy n base k) (hasRoom t k) q ≡ given z → ((j : ℕ) → getD (k .image) j 0 < 256)
-        → rawOf t (after-write .image) g (q .index) ≡ z
+    pub reads-as-written : (z : ℤ) → judgedRequest t (lentBy n base k) (hasRoom t k) q ≡ given z → ((j : ℕ) → getD (k .image) j 0 < 256)
+        → rawIn t (after-write .image) g (q .index) ≡ z
     reads-as-written z e b =
-        by-answer t n base k q (λ (y : After). rawOf t (y .left .image) g (q .index) ≡ z) (λ c d. absurd (never c z (sym d ∙ e)))
+        by-answer t n base k q (λ (y : After). rawIn t (y .left .image) g (q .index) ≡ z) (λ c d. absurd (never c z (sym d ∙ e)))
         (λ y d. let same : y ≡ z = same-given y z (sym d ∙ e) in
         let a = accepted t (lentBy n base k) (hasRoom t k) q y d in
-        ap (λ (i : List ℕ). rawOf t i g (q .index)) (image-after t g (q .index) k y)
+        ap (λ (i : List ℕ). rawIn t i g (q .index)) (image-after t g (q .index) k y)
         ∙ raw-stored t g (q .index) (k .image) y (mask-inside n (length (k .image)) t (a .rule) g (a .group-below)) b
         (wanted-fits (tablesIn t) g (q .wanted) y (a .wants)) (element-inside n (length (k .image)) t (a .rule) g (q .index) (a .group-below) (a .index-below))
         ∙ same)
 
     -- and so the call that reads the element answers
-    pub reads-back : (z : ℤ) → judged t (lentBy n base k) (hasRoom t k) q ≡ given z → ((j : ℕ) → getD (k .image) j 0 < 256)
+    pub reads-back : (z : ℤ) → judgedRequest t (lentBy n base k) (hasRoom t k) q ≡ given z → ((j : ℕ) → getD (k .image) j 0 < 256)
         → reading t (after-write .image) (lentBy n base after-write) (q .object) (q .part) (q .index) ≡ given (readingOf t g z)
     unfolding reading checked
     reads-back z e b =
@@ -225,14 +225,14 @@ module _ (t : List ℕ) (n base : ℕ) where
 
   -- a raw write: the element reads as the number asked
   pub reads-as-asked : (k : Kept) (o p i : ℕ) (z : ℤ) → writing t n base k (request o p i (rawNumber z)) .answer ≡ given (tt {0}) → ((j : ℕ) → getD (k .image) j 0 < 256)
-      → rawOf t (writing t n base k (request o p i (rawNumber z)) .left .image) (groupOf o p) i ≡ z
-  reads-as-asked k o p i z h b = go (judged t (lentBy n base k) (hasRoom t k) (request o p i (rawNumber z))) refl h
+      → rawIn t (writing t n base k (request o p i (rawNumber z)) .left .image) (groupOf o p) i ≡ z
+  reads-as-asked k o p i z h b = go (judgedRequest t (lentBy n base k) (hasRoom t k) (request o p i (rawNumber z))) refl h
     where
-      is : (y : ℤ) → judged t (lentBy n base k) (hasRoom t k) (request o p i (rawNumber z)) ≡ given y → y ≡ z
+      is : (y : ℤ) → judgedRequest t (lentBy n base k) (hasRoom t k) (request o p i (rawNumber z)) ≡ given y → y ≡ z
       is y e = sym (wanted-raw (tablesIn t) (groupOf o p) z y (accepted t (lentBy n base k) (hasRoom t k) (request o p i (rawNumber z)) y e .wants))
 
-      go : (a : Answer ℤ) → judged t (lentBy n base k) (hasRoom t k) (request o p i (rawNumber z)) ≡ a → writing t n base k (request o p i (rawNumber z)) .answer ≡ given (tt {0})
-          → rawOf t (writing t n base k (request o p i (rawNumber z)) .left .image) (groupOf o p) i ≡ z
+      go : (a : Answer ℤ) → judgedRequest t (lentBy n base k) (hasRoom t k) (request o p i (rawNumber z)) ≡ a → writing t n base k (request o p i (rawNumber z)) .answer ≡ given (tt {0})
+          → rawIn t (writing t n base k (request o p i (rawNumber z)) .left .image) (groupOf o p) i ≡ z
       go (given y) e w = reads-as-written k (request o p i (rawNumber z)) y e b ∙ is y e
       go (refused c) e w = absurd (never c (tt {0}) (sym (refused-answer t n base k (request o p i (rawNumber z)) c e) ∙ w))
 
@@ -243,7 +243,7 @@ module _ (t : List ℕ) (n base : ℕ) where
 
   -- ---- no byte of the image decides a write's answer, only its length
   pub write-depends-on-length-only : (image other : List ℕ) (enough : Bool) (q : Request) → length image ≡ length other
-      → judged t (lentOf n (length image) base) enough q ≡ judged t (lentOf n (length other) base) enough q
+      → judgedRequest t (lentOf n (length image) base) enough q ≡ judgedRequest t (lentOf n (length other) base) enough q
   write-depends-on-length-only image other enough q e = rw e
 
   -- ---- a contract leaves one result

@@ -9,13 +9,13 @@ use borrow.Author.Tests.{eqb-true, eqb-false}
 use lib.Dec.{eqb}
 use lib.ListN.{length}
 use Rattle.text.specs.Bytes.{samePart}
-use Rattle.tables.specs.Form.{object, Tables}
+use Rattle.tables.specs.Form.{objectSection, Tables}
 use Rattle.look.specs.Calls.{searchFrom}
 
 module _ (x : List ℕ) (T : Tables) (w : List ℕ) where
   -- object i bears the name
   abbrev pub bears : ℕ → Bool
-  bears i = samePart x (T .slots object i 0) (T .slots object i 1) w 0 (length w)
+  bears i = samePart x (T .slots objectSection i 0) (T .slots objectSection i 1) w 0 (length w)
 
   -- k is the first object from i on, of f, that bears the name
   pub record First (f i k : ℕ) : Type 0 where

@@ -8,12 +8,12 @@ use lib.Dec.{eqb, leb, ltb}
 use lib.IntN.{ℤ, pos, negsuc, natAbs}
 use lib.ListN.{length, getD, length-append, length-take, length-drop}
 use Rattle.number.specs.Answer.{given, refused}
-use Rattle.tables.specs.Form.{object, group, tablesIn}
+use Rattle.tables.specs.Form.{objectSection, groupSection, tablesIn}
 use Rattle.tables.specs.Group.{elements, sumBelow}
 use Rattle.look.specs.Calls.{Kept, checked, hasRoom, lentBy}
 use Rattle.print.specs.Print.{figuresOf, signed, slice}
 use Rattle.listing.specs.Print.{physical, line, header}
-use Rattle.listing.specs.Listing.{Columns, columnsOf, nameOf, lineAt, printedPart, printedBelow, printed, listedBy, ifFits, keptNo, listing}
+use Rattle.listing.specs.Listing.{Columns, columnsOf, nameOf, printedLine, printedPart, printedBelow, printed, listedBy, ifFits, keptNo, listing}
 use Rattle.listing.proofs.ListingLaws.{kept-text, kept-lines, kept-passed, kept-refused}
 use Rattle.ffi.specs.Numbers.{heldCount}
 
@@ -51,12 +51,12 @@ line-few x name p i raw value =
     simp length-append (omega arith)
 
 module _ (x t : List ℕ) (k : Columns) (h : length x ≤ 2 ^ 24) where
-  at-few : (g i n : ℕ) → length (lineAt x t k g i n) ≤ 2 ^ 26
-  unfolding lineAt
+  at-few : (g i n : ℕ) → length (printedLine x t k g i n) ≤ 2 ^ 26
+  unfolding printedLine
   at-few g i n =
       let v = physical x (getD (k .state) n 0) (getD (k .first) n (pos 0)) (getD (k .second) n (pos 0)) in
       let a = line-few x (nameOf x t k g) (g % 3) i (getD (k .raw) n (pos 0)) v in
-      let b : length (nameOf x t k g) ≤ length x = slice-few x (tablesIn t .slots object (g / 3) 0) (tablesIn t .slots object (g / 3) 1) in
+      let b : length (nameOf x t k g) ≤ length x = slice-few x (tablesIn t .slots objectSection (g / 3) 0) (tablesIn t .slots objectSection (g / 3) 1) in
       let c : length v ≤ length x + 43 = physical-few x (getD (k .state) n 0) (getD (k .first) n (pos 0)) (getD (k .second) n (pos 0)) in
       omega (arith, a, b, c)
 
@@ -81,10 +81,10 @@ module _ (x t : List ℕ) (k : Columns) (h : length x ≤ 2 ^ 24) where
   unfolding header
   header-few = refl
 
-  printed-few : sumBelow (tablesIn t .counts group) (elements (tablesIn t)) ≤ 4096 → length (printed x t k) < 2 ^ 63
+  printed-few : sumBelow (tablesIn t .counts groupSection) (elements (tablesIn t)) ≤ 4096 → length (printed x t k) < 2 ^ 63
   unfolding printed
   printed-few s =
-      let a = below-few (tablesIn t .counts group) in
+      let a = below-few (tablesIn t .counts groupSection) in
       let b = header-few in
       simp length-append (omega arith)
 

@@ -17,7 +17,7 @@ use Rattle.number.specs.Whole.{wholeFrom, wholeOf}
 use Rattle.number.specs.Decimal.{signs, minus, lowest, made, pointed, decimalOf}
 use Rattle.convert.specs.Limit.{formed, atMost}
 use Rattle.words.specs.Row.{word, bytes, same, kindIn}
-use Rattle.words.specs.Table.{rows as words}
+use Rattle.words.specs.Table.{wordRows as words}
 use Rattle.words.specs.Class.{classOf, classAt}
 use Rattle.rows.specs.Sections.{sections}
 use Rattle.rows.specs.Rows.{rows, needed, rowCells, paramCells, limitCells, needCells, rowCell, paramCell, limitCell, needCell}

@@ -2,7 +2,7 @@
 ghost use mathlib.Core.Path.{_≡_};
 ghost use mathlib.Core.Bool.{cond};
 ghost use Prim.Native.Nat.{_*_, _≤_, _^_};
-ghost use Rattle.place.specs.Judge.{bytesOf, elements, allInside, weighed, judged};
+ghost use Rattle.place.specs.Judge.{bytesOf, elementsStored, allInside, weighed, judgedObject};
 ghost use Rattle.place.specs.Told.{toldJudged};
 use crate::inside::is_inside;
 use crate::walk::place_parts;
@@ -45,7 +45,7 @@ fn if_stored(stored: bool, n: u64) -> u64
 
 // How many elements an object has of its own.
 fn elements_of(n: Need, p: Places) -> u64
-    ensures { λ r. ⌜ (r ≡ elements n p) × (r ≤ 2 ^ 33) ⌝ }
+    ensures { λ r. ⌜ (r ≡ elementsStored n p) × (r ≤ 2 ^ 33) ⌝ }
 {
     let x = p.cx as u64;
     let y = p.cy as u64;
@@ -93,7 +93,7 @@ fn weigh(image: &[u8], base: u32, n: Need, l: Layout, used: u32, p: Places) -> J
 
 // The judgement of an object, after others with so many elements: where it stands, or the number of its refusal.
 pub fn judge_object(image: &[u8], g: Ground, n: Need, l: Layout, used: u32) -> Judged
-    ensures { λ r. ⌜ toldJudged r ≡ judged (now (image .entry)) g n l used ⌝ }
+    ensures { λ r. ⌜ toldJudged r ≡ judgedObject (now (image .entry)) g n l used ⌝ }
 {
     let answer = place_parts(image, g, n, l);
     match answer {

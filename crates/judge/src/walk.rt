@@ -4,7 +4,7 @@ ghost use Prim.Native.Nat.{_+_, _*_, _^_, _≤_, _<_};
 ghost use Rattle.number.specs.Answer.{given};
 ghost use Rattle.place.specs.Order.{parts, inOrder};
 ghost use Rattle.place.specs.Told.{toldCount, toldPlaced};
-ghost use Rattle.place.specs.Walk.{startOf, within, pointsOf, countIn, countAt, valuesAt, xAt, yAt, countXAt, countYAt, placeOne, step, allPlaced, start, placement, freeOf};
+ghost use Rattle.place.specs.Walk.{startOf, within, pointsOf, countStored, countAt, valuesAt, xAt, yAt, countXAt, countYAt, placeOne, step, allPlaced, start, placement, freeOf};
 use crate::align::align_of;
 use crate::align::align_up;
 use crate::inside::is_inside;
@@ -46,7 +46,7 @@ fn points_of(a: Axis) -> u16
 
 // A stored count is 1 to its maximum.
 fn count_in(most: u16, raw: i64) -> Counted
-    ensures { λ r. ⌜ toldCount r ≡ countIn most raw ⌝ }
+    ensures { λ r. ⌜ toldCount r ≡ countStored most raw ⌝ }
 {
     if raw < 1 {
         return Counted::Refused { no: BAD_COUNT };

@@ -16,7 +16,7 @@ use Rattle.rows.specs.Sections.{sections, object, axis}
 use Rattle.grammar.specs.Move.{View, view}
 use Rattle.grammar.specs.Parameter.{find}
 use Rattle.grammar.specs.Keyword.{axesOf}
-use Rattle.refer.specs.Refer.{row, innerRows, rows, isFree, isOf, leads}
+use Rattle.refer.specs.Refer.{row, innerRows, referenceRows, isFree, isOf, leads}
 use Rattle.place.specs.Walk.{pointsOf, placement}
 use Rattle.place.specs.declared.rules.Axis.{Axis}
 use Rattle.place.specs.declared.rules.Need.{Need}
@@ -37,7 +37,7 @@ abbrev pub Shares : List ℕ → List (List (List ℕ)) → Type 0
 Shares x d = (a : ℕ) → a < count d axis → (slot d axis a 15 ≡ 0 → ⊥) → leads x (view d) (row axis 14 object AXIS-PTS 0) (slot d axis a 14) (slot d axis a 15) ≡ true
 
 pub shares : (image : List ℕ) (base : ℕ) (x : List ℕ) (d : List (List (List ℕ))) → Accepted image base x d → Shares x d
-unfolding rows innerRows
+unfolding referenceRows innerRows
 shares image base x d h a l z = h .references (row axis 14 object AXIS-PTS 0) (inr (inr (inr (inr (inr (inl refl)))))) a l z
 
 own-points : (m : ℕ) → 1 ≤ m → 1 ≤ pointsOf (ownAxis (min m 256))

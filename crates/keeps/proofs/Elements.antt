@@ -12,7 +12,7 @@ use Rattle.grammar.specs.Move.{view}
 use Rattle.facts.specs.Facts.{Kept}
 use Rattle.facts.proofs.Keeps.{read-keeps}
 use Rattle.objects.specs.Object.{layoutOf, needOf, placesOf}
-use Rattle.tables.specs.Form.{sections, group, Tables, tablesOf, tablesIn, kind, x, y}
+use Rattle.tables.specs.Form.{tableSections, groupSection, Tables, tablesOf, tablesIn, kind, x, y}
 use Rattle.tables.specs.Group.{groupOf, elements, bytes, placeOf}
 use Rattle.tables.proofs.Cells.{tables-encode}
 use Rattle.tables.proofs.Reading.{element-inside}
@@ -27,10 +27,10 @@ use Rattle.keeps.proofs.Rule.{stood, load-keeps}
 
 -- what the first numbers of a part's row are
 record Placed (T : Tables) (g base m k at cx cy : ℕ) : Type 0 where
-  kind-is : T .slots group g 0 ≡ k
-  at-is : T .slots group g 2 ≡ at - base
-  cx-is : T .slots group g 3 ≡ cx
-  cy-is : T .slots group g 4 ≡ cy
+  kind-is : T .slots groupSection g 0 ≡ k
+  at-is : T .slots groupSection g 2 ≡ at - base
+  cx-is : T .slots groupSection g 3 ≡ cx
+  cy-is : T .slots groupSection g 4 ≡ cy
   few-x : cx ≤ 4096
   few-y : cy ≤ 4096
   above : base ≤ at
@@ -49,7 +49,7 @@ module _ (image : List ℕ) (base : ℕ) (x₀ : List ℕ) (d : List (List (List
   x-placed : needOf image base x₀ (view d) i .x .stored ≡ true → Placed T (i * 3) base (length image) (layoutOf x₀ (view d) i .x .kind) (placesOf image base x₀ (view d) i .x) (placesOf image base x₀ (view d) i .cx) 1
   unfolding xPart knownOf meaning limitCells
   x-placed e =
-      let h : (j : ℕ) → T .slots group (i * 3) j ≡ getD (xRow image base x₀ (view d) i) j 0 = λ j. slot-x image base x₀ (view d) n w i j l in
+      let h : (j : ℕ) → T .slots groupSection (i * 3) j ≡ getD (xRow image base x₀ (view d) i) j 0 = λ j. slot-x image base x₀ (view d) n w i j l in
       let b = all-in .x e in
       record {
         kind-is = rw e at (h 0);
@@ -65,7 +65,7 @@ module _ (image : List ℕ) (base : ℕ) (x₀ : List ℕ) (d : List (List (List
   y-placed : needOf image base x₀ (view d) i .y .stored ≡ true → Placed T (i * 3 + 1) base (length image) (layoutOf x₀ (view d) i .y .kind) (placesOf image base x₀ (view d) i .y) (placesOf image base x₀ (view d) i .cy) 1
   unfolding yPart knownOf meaning limitCells
   y-placed e =
-      let h : (j : ℕ) → T .slots group (i * 3 + 1) j ≡ getD (yRow image base x₀ (view d) i) j 0 = λ j. slot-y image base x₀ (view d) n w i j l in
+      let h : (j : ℕ) → T .slots groupSection (i * 3 + 1) j ≡ getD (yRow image base x₀ (view d) i) j 0 = λ j. slot-y image base x₀ (view d) n w i j l in
       let b = all-in .y e in
       record {
         kind-is = rw e at (h 0);
@@ -82,7 +82,7 @@ module _ (image : List ℕ) (base : ℕ) (x₀ : List ℕ) (d : List (List (List
       → Placed T (i * 3 + 2) base (length image) (layoutOf x₀ (view d) i .values .kind) (placesOf image base x₀ (view d) i .values) (placesOf image base x₀ (view d) i .cx) (placesOf image base x₀ (view d) i .cy)
   unfolding valuesPart knownOf meaning limitCells
   values-placed e =
-      let h : (j : ℕ) → T .slots group (i * 3 + 2) j ≡ getD (valuesRow image base x₀ (view d) i) j 0 = λ j. slot-values image base x₀ (view d) n w i j l in
+      let h : (j : ℕ) → T .slots groupSection (i * 3 + 2) j ≡ getD (valuesRow image base x₀ (view d) i) j 0 = λ j. slot-values image base x₀ (view d) n w i j l in
       let b = all-in .values e in
       let c = few-points image base x₀ d n k i l s e in
       record { kind-is = rw e at (h 0); at-is = rw e at (h 2); cx-is = rw e at (h 3); cy-is = rw e at (h 4); few-x = c .0; few-y = c .1; above = b .0; fits = omega (arith, b .1) }
@@ -106,16 +106,16 @@ module _ (image : List ℕ) (base : ℕ) (x₀ : List ℕ) (D : List (List (List
   fits : Within (view (t .records))
   fits = within-of (t .records) (kept .good)
 
-  same : tablesIn (encode sections (room sections) D) ≡ tablesOf D
-  same = tables-encode (room sections) D (rw (t .is-built) (built-good image base x₀ (view (t .records)) (allElements image base x₀ (t .records)) fits))
+  same : tablesIn (encode tableSections (room tableSections) D) ≡ tablesOf D
+  same = tables-encode (room tableSections) D (rw (t .is-built) (built-good image base x₀ (view (t .records)) (allElements image base x₀ (t .records)) fits))
 
-  groups-are : count D group ≡ count (t .records) records.object * 3
+  groups-are : count D groupSection ≡ count (t .records) records.object * 3
   groups-are = rw (t .is-built) (count-groups image base x₀ (view (t .records)) (allElements image base x₀ (t .records)) fits)
 
-  inside-at : (g j : ℕ) → g < count D group → j < elements (tablesOf D) g → placeOf (tablesOf D) g j + bytes (tablesOf D) g ≤ length image
+  inside-at : (g j : ℕ) → g < count D groupSection → j < elements (tablesOf D) g → placeOf (tablesOf D) g j + bytes (tablesOf D) g ≤ length image
   inside-at =
-      subst (λ (T : Tables). (g j : ℕ) → g < T .counts group → j < elements T g → placeOf T g j + bytes T g ≤ length image) same
-      (element-inside (length x₀) (length image) (encode sections (room sections) D) (load-keeps image base x₀ D (accepted-given image base x₀ D t) (room sections) (omega arith)))
+      subst (λ (T : Tables). (g j : ℕ) → g < T .counts groupSection → j < elements T g → placeOf T g j + bytes T g ≤ length image) same
+      (element-inside (length x₀) (length image) (encode tableSections (room tableSections) D) (load-keeps image base x₀ D (accepted-given image base x₀ D t) (room tableSections) (omega arith)))
 
   -- object i's part p, where it needs it
   pub element-stands : (i : ℕ) → i < count (t .records) records.object → (p : Part) → needed (needOf image base x₀ (view (t .records)) i) p ≡ true

@@ -18,10 +18,10 @@ use Rattle.records.specs.Records.{count, slot}
 use Rattle.rows.specs.Sections.{method, object, axis}
 use Rattle.grammar.specs.Move.{View, view}
 use Rattle.grammar.specs.Read.{read}
-use Rattle.refer.specs.Refer.{innerRows, rows, leads, failing, leastFrom, leastOf, leastIn, referred}
+use Rattle.refer.specs.Refer.{innerRows, referenceRows, leads, failing, leastFrom, leastOf, leastIn, referred}
 use Rattle.refer.specs.declared.Row.{Row}
 use Rattle.methods.specs.Methods.{coefficients, convertsFrom, converts}
-use Rattle.place.specs.Judge.{elements, allInside, weighed, after, judged}
+use Rattle.place.specs.Judge.{elementsStored, allInside, weighed, after, judgedObject}
 use Rattle.place.specs.Walk.{placement}
 use Rattle.place.specs.declared.walk.Reached.{Reached}
 use Rattle.objects.specs.Object.{layoutOf, groundOf, needOf, maskFits, placesIn, judgeObject, placesOf, elementsOf}
@@ -107,16 +107,16 @@ module _ (x : List ℕ) (v : View) where
       let b : length x ≤ leastIn x v rs = in-least rs (λ r m. h r (inr m)) in
       omega arith
 
-  referred-each : referred x v ≡ given tt → (r : Row) → Among r rows → (i : ℕ) → i < v .counts (r .sec) → Leading r i
+  referred-each : referred x v ≡ given tt → (r : Row) → Among r referenceRows → (i : ℕ) → i < v .counts (r .sec) → Leading r i
   unfolding referred
-  referred-each h = least-in rows (turn (ltb (leastIn x v rows) (length x)) refl h) where
-    turn : (b : Bool) → ltb (leastIn x v rows) (length x) ≡ b → cond b (refused 7 (leastIn x v rows)) fine ≡ fine → length x ≤ leastIn x v rows
+  referred-each h = least-in referenceRows (turn (ltb (leastIn x v referenceRows) (length x)) refl h) where
+    turn : (b : Bool) → ltb (leastIn x v referenceRows) (length x) ≡ b → cond b (refused 7 (leastIn x v referenceRows)) fine ≡ fine → length x ≤ leastIn x v referenceRows
     turn true e q = let z : _≡_ {A = ℕ} 0 1 = cc in absurd (omega arith)
-    turn false e q = ltb-false (leastIn x v rows) (length x) e
+    turn false e q = ltb-false (leastIn x v referenceRows) (length x) e
 
-  each-referred : ((r : Row) → Among r rows → (i : ℕ) → i < v .counts (r .sec) → Leading r i) → referred x v ≡ given tt
+  each-referred : ((r : Row) → Among r referenceRows → (i : ℕ) → i < v .counts (r .sec) → Leading r i) → referred x v ≡ given tt
   unfolding referred
-  each-referred h = rw (le-ltb (leastIn x v rows) (length x) (in-least rows h))
+  each-referred h = rw (le-ltb (leastIn x v referenceRows) (length x) (in-least referenceRows h))
 
 -- what holds of each row
 abbrev Each : (Row → Type 0) → List Row → Type 0
@@ -129,9 +129,9 @@ among-each P (s ∷ rs) h r (inl e) = subst P (sym e) (h .0)
 among-each P (s ∷ rs) h r (inr m) = among-each P rs (h .1) r m
 
 -- the records keep the name of a reference as a text
-row-text : (r : Row) → Among r rows → isText (r .sec) (r .slot) ≡ true
-unfolding rows innerRows
-row-text = among-each (λ (r : Row). isText (r .sec) (r .slot) ≡ true) rows (b .0, (c .0, (d .0, (e .0, (f .0, (f .1, (a .0, tt)))))))
+row-text : (r : Row) → Among r referenceRows → isText (r .sec) (r .slot) ≡ true
+unfolding referenceRows innerRows
+row-text = among-each (λ (r : Row). isText (r .sec) (r .slot) ≡ true) referenceRows (b .0, (c .0, (d .0, (e .0, (f .0, (f .1, (a .0, tt)))))))
   where
     two : (p q : Bool) → (p && q) ≡ true → (p ≡ true) × (q ≡ true)
     two p q h = (and-left p q h, and-right p q h)
@@ -190,13 +190,13 @@ module _ (image : List ℕ) (base : ℕ) (x : List ℕ) (v : View) where
     unfolding weighed groundOf elementsOf placesOf
     after-given (number.given r) e g =
         let p : placesOf image base x v i ≡ r .places = ap placesIn e in
-        let a : leb (used + elements (needOf image base x v i) (r .places)) 4096 ≡ true = rw (← p) (le-leb (used + elementsOf image base x v i) 4096 l) in
+        let a : leb (used + elementsStored (needOf image base x v i) (r .places)) 4096 ≡ true = rw (← p) (le-leb (used + elementsOf image base x v i) 4096 l) in
         let b : allInside image base (needOf image base x v i) (layoutOf x v i) (r .places) ≡ true = rw (← p) (f .inside) in
         rw (a, b, ← p)
     after-given (number.refused k) e g = absurd (false≢true g)
 
     judge-given : judgeObject image base x v i used ≡ number.given (record { places = placesOf image base x v i; total = used + elementsOf image base x v i })
-    unfolding judgeObject judged
+    unfolding judgeObject judgedObject
     judge-given = rw (f .mask) (after-given (placement (groundOf x v base i) (needOf image base x v i) image (layoutOf x v i)) refl (f .placed))
 
   counted-most : (seen : List ℕ) (k : ℕ) → counted image base x v seen k ≤ elementsOf image base x v k
@@ -219,7 +219,7 @@ module _ (image : List ℕ) (base : ℕ) (x : List ℕ) (v : View) where
     turn-gives j js seen used l h e ih = by (eqb (getD seen j 0) 0) refl ih where
       by : (b : Bool) → eqb (getD seen j 0) 0 ≡ b
           → ((u : ℕ) → v .counts object ≤ length (cond b (set seen j 1) seen) → u ≡ sumOf image base x v (cond b (set seen j 1) seen) → Gives (judgeEach image base x v (cond b (set seen j 1) seen) js u))
-          → Gives (with (cond b (stage.weighed (v .slots object j 0) (judgeObject image base x v j used)) (given used)) (judgeEach image base x v (cond b (set seen j 1) seen) js))
+          → Gives (with (cond b (stage.totalOr (v .slots object j 0) (judgeObject image base x v j used)) (given used)) (judgeEach image base x v (cond b (set seen j 1) seen) js))
       by true t k =
           let s : sumOf image base x v (set seen j 1) ≡ sumOf image base x v seen + elementsOf image base x v j = sum-marked image base x v seen j (omega arith) h t in
           let m : used + elementsOf image base x v j ≤ 4096 = omega (arith, sum-within (set seen j 1)) in

@@ -21,7 +21,7 @@ use Rattle.rows.specs.Sections as records
 use Rattle.grammar.specs.Move.{View, view, decimalSlots}
 use Rattle.facts.specs.Facts.{Kept}
 use Rattle.place.specs.Inside.{inside}
-use Rattle.place.specs.Judge.{bytesOf, elements, allInside}
+use Rattle.place.specs.Judge.{bytesOf, elementsStored, allInside}
 use Rattle.place.specs.Rules.{same, matching}
 use Rattle.place.specs.declared.order.Entry.{Entry}
 use Rattle.place.specs.declared.order.Layout.{Layout}
@@ -31,7 +31,7 @@ use Rattle.place.specs.declared.walk.Places.{Places}
 use Rattle.objects.specs.Object as objects
 use Rattle.objects.specs.Object.{part, layoutAt, measured, noEntry, layoutOf, layoutNumber, firstOf, groundOf, noAxis, axisAt, needOf, maskFits, placesOf, elementsOf}
 use Rattle.objects.proofs.Each.{find-below}
-use Rattle.tables.specs.Form.{group, method, Tables, tablesOf, kind}
+use Rattle.tables.specs.Form.{groupSection, methodSection, Tables, tablesOf, kind}
 use Rattle.tables.specs.Group as groups
 use Rattle.tables.specs.Rule.{isType, groupRule}
 use Rattle.build.specs.Build.{methodNumber, methodIn, forbids, limitCells, meaning, valuesWalk, maskOf, whatOf, ofObject, ofAxis, xSource, xPart, yPart, valuesPart, xRow, yRow, valuesRow, knownOf, built}
@@ -223,13 +223,13 @@ module _ (image : List ℕ) (base : ℕ) (x : List ℕ) (d : List (List (List �
     abbrev pub Pointing : Type 0
     Pointing = (1 ≤ placesOf image base x (view d) i .cx) × (1 ≤ placesOf image base x (view d) i .cy)
 
-    methods-few : (q : Source) → methodIn x (view d) q ≤ T .counts method
+    methods-few : (q : Source) → methodIn x (view d) q ≤ T .counts methodSection
     methods-few q = rw (count-methods image base x (view d) n w) (method-few x (view d) q)
 
     pub x-ruling : Pointing → Ruling (i * 3) (needOf image base x (view d) i .x .stored) (cond (needOf image base x (view d) i .x .stored) (placesOf image base x (view d) i .cx) 0)
     unfolding xPart knownOf meaning limitCells groundOf
     x-ruling o = turn (needOf image base x (view d) i .x .stored) refl (λ j. slot-x image base x (view d) n w i j l) where
-      turn : (b : Bool) → needOf image base x (view d) i .x .stored ≡ b → ((j : ℕ) → T .slots group (i * 3) j ≡ getD (xRow image base x (view d) i) j 0)
+      turn : (b : Bool) → needOf image base x (view d) i .x .stored ≡ b → ((j : ℕ) → T .slots groupSection (i * 3) j ≡ getD (xRow image base x (view d) i) j 0)
           → Ruling (i * 3) b (cond b (placesOf image base x (view d) i .cx) 0)
       turn true e h₀ =
           let h = rw e at h₀ in
@@ -258,7 +258,7 @@ module _ (image : List ℕ) (base : ℕ) (x : List ℕ) (d : List (List (List �
     pub y-ruling : Pointing → Ruling (i * 3 + 1) (needOf image base x (view d) i .y .stored) (cond (needOf image base x (view d) i .y .stored) (placesOf image base x (view d) i .cy) 0)
     unfolding yPart knownOf meaning limitCells groundOf
     y-ruling o = turn (needOf image base x (view d) i .y .stored) refl (λ j. slot-y image base x (view d) n w i j l) where
-      turn : (b : Bool) → needOf image base x (view d) i .y .stored ≡ b → ((j : ℕ) → T .slots group (i * 3 + 1) j ≡ getD (yRow image base x (view d) i) j 0)
+      turn : (b : Bool) → needOf image base x (view d) i .y .stored ≡ b → ((j : ℕ) → T .slots groupSection (i * 3 + 1) j ≡ getD (yRow image base x (view d) i) j 0)
           → Ruling (i * 3 + 1) b (cond b (placesOf image base x (view d) i .cy) 0)
       turn true e h₀ =
           let h = rw e at h₀ in
@@ -286,7 +286,7 @@ module _ (image : List ℕ) (base : ℕ) (x : List ℕ) (d : List (List (List �
 
     -- values have at most 4,096 points in x and in y
     pub few-points : needOf image base x (view d) i .values ≡ true → (placesOf image base x (view d) i .cx ≤ 4096) × (placesOf image base x (view d) i .cy ≤ 4096)
-    unfolding elementsOf elements
+    unfolding elementsOf elementsStored
     few-points e = by-row (need-modest image base x (view d) i .row) where
       elements-few : cond (needOf image base x (view d) i .x .stored) (placesOf image base x (view d) i .cx) 0 + cond (needOf image base x (view d) i .y .stored) (placesOf image base x (view d) i .cy) 0
           + cond (needOf image base x (view d) i .values) (placesOf image base x (view d) i .cx * placesOf image base x (view d) i .cy) 0 ≤ 4096
@@ -308,7 +308,7 @@ module _ (image : List ℕ) (base : ℕ) (x : List ℕ) (d : List (List (List �
     pub values-ruling : Pointing → Ruling (i * 3 + 2) (needOf image base x (view d) i .values) (cond (needOf image base x (view d) i .values) (placesOf image base x (view d) i .cx * placesOf image base x (view d) i .cy) 0)
     unfolding valuesPart knownOf meaning limitCells
     values-ruling o = turn (needOf image base x (view d) i .values) refl (λ j. slot-values image base x (view d) n w i j l) where
-      turn : (b : Bool) → needOf image base x (view d) i .values ≡ b → ((j : ℕ) → T .slots group (i * 3 + 2) j ≡ getD (valuesRow image base x (view d) i) j 0)
+      turn : (b : Bool) → needOf image base x (view d) i .values ≡ b → ((j : ℕ) → T .slots groupSection (i * 3 + 2) j ≡ getD (valuesRow image base x (view d) i) j 0)
           → Ruling (i * 3 + 2) b (cond b (placesOf image base x (view d) i .cx * placesOf image base x (view d) i .cy) 0)
       turn true e h₀ =
           let h = rw e at h₀ in

@@ -16,7 +16,7 @@ use Rattle.facts.specs.Facts.{Kept}
 use Rattle.place.specs.declared.rules.Axis.{Axis}
 use Rattle.place.specs.declared.rules.Need.{Need}
 use Rattle.objects.specs.Object.{noAxis, valueNeed, axisPtsNeed, blockNeed, curveNeed, mapNeed, characteristicNeed, needOf, placesOf}
-use Rattle.tables.specs.Form.{object, group, Tables, tablesOf, kind, x, y}
+use Rattle.tables.specs.Form.{objectSection, groupSection, Tables, tablesOf, kind, x, y}
 use Rattle.tables.specs.Rule.{axisPtsRule, blockRule, valueRule, measurementRule, curveRule, mapRule, partsRule, objectRule}
 use Rattle.build.specs.Build.{limitCells, forbids, meaning, typeOf, whatOf, ofObject, valuesPart, valuesRow, knownOf, built}
 use Rattle.build.proofs.BuiltLaws.{Within, within-of, slot-object, slot-values}
@@ -90,11 +90,11 @@ module _ (image : List ℕ) (base : ℕ) (t : List ℕ) (d : List (List (List �
     values-stored = values-ruling image base t d n k i l s o .stored-is
 
     -- points in x and y, and whether writing is forbidden
-    values-slots : need .values ≡ true → (T .slots group (i * 3 + 2) 3 ≡ placesOf image base t (view d) i .cx) × (T .slots group (i * 3 + 2) 4 ≡ placesOf image base t (view d) i .cy)
-        × (T .slots group (i * 3 + 2) 10 ≡ forbids (view d) (ofObject i) (eqb (whatOf (view d) i) MEASUREMENT))
+    values-slots : need .values ≡ true → (T .slots groupSection (i * 3 + 2) 3 ≡ placesOf image base t (view d) i .cx) × (T .slots groupSection (i * 3 + 2) 4 ≡ placesOf image base t (view d) i .cy)
+        × (T .slots groupSection (i * 3 + 2) 10 ≡ forbids (view d) (ofObject i) (eqb (whatOf (view d) i) MEASUREMENT))
     unfolding valuesPart knownOf meaning limitCells
     values-slots e =
-        let h : (j : ℕ) → T .slots group (i * 3 + 2) j ≡ getD (valuesRow image base t (view d) i) j 0 = λ j. slot-values image base t (view d) n w i j l in
+        let h : (j : ℕ) → T .slots groupSection (i * 3 + 2) j ≡ getD (valuesRow image base t (view d) i) j 0 = λ j. slot-values image base t (view d) n w i j l in
         (rw e at (h 3), rw e at (h 4), rw e at (h 10))
 
     -- where there is no axis there is one point
@@ -124,13 +124,13 @@ module _ (image : List ℕ) (base : ℕ) (t : List ℕ) (d : List (List (List �
         and (block-keeps (ap (λ (m : Need). m .x .stored) e) (ap (λ (m : Need). m .y) e) r) (eq-eqb (x T (i * 3 + 2)) 1 (one-column r (ap (λ (m : Need). m .x) e)))
 
     -- "MEASUREMENT or READ_ONLY" is not written
-    mark-is : whatOf (view d) i ≡ MEASUREMENT → need .values ≡ true → T .slots group (i * 3 + 2) 10 ≡ 1
+    mark-is : whatOf (view d) i ≡ MEASUREMENT → need .values ≡ true → T .slots groupSection (i * 3 + 2) 10 ≡ 1
     unfolding forbids
     mark-is e r = values-slots r .2 ∙ rw (eq-eqb (whatOf (view d) i) MEASUREMENT e)
 
     measurement-keeps : whatOf (view d) i ≡ MEASUREMENT → need ≡ valueNeed → measurementRule T i ≡ true
     unfolding measurementRule
-    measurement-keeps e f = and (value-keeps f) (eq-eqb (T .slots group (i * 3 + 2) 10) 1 (mark-is e (ap (λ (m : Need). m .values) f)))
+    measurement-keeps e f = and (value-keeps f) (eq-eqb (T .slots groupSection (i * 3 + 2) 10) 1 (mark-is e (ap (λ (m : Need). m .values) f)))
 
     curve-keeps : need .y ≡ noAxis → need .values ≡ true → curveRule T i ≡ true
     unfolding curveRule
@@ -158,5 +158,5 @@ module _ (image : List ℕ) (base : ℕ) (t : List ℕ) (d : List (List (List �
     unfolding objectRule
     object-keeps =
         let e = slot-object image base t (view d) n w i in
-        and (text-keeps (length t) (slot d records.object i 0) (slot d records.object i 1) (T .slots object i 0) (T .slots object i 1) (e 0 l) (e 1 l) (k .names records.object i refl))
+        and (text-keeps (length t) (slot d records.object i 0) (slot d records.object i 1) (T .slots objectSection i 0) (T .slots objectSection i 1) (e 0 l) (e 1 l) (k .names records.object i refl))
         (ap (λ (m : ℕ). partsRule T i m) (e 2 l) ∙ parts-keep)

@@ -12,9 +12,9 @@ use Rattle.number.specs.Decimal.{Scaled}
 use Rattle.cell.specs.Kind.{shapeOf}
 use Rattle.cell.specs.Mask.{maskRule}
 use Rattle.convert.specs.Limit.{atMost}
-use Rattle.tables.specs.Form.{group, method, Tables, kind, place, x, y, wide, high, walk, methodOf, mask, counter, counterPlace, limit}
+use Rattle.tables.specs.Form.{groupSection, methodSection, Tables, kind, place, x, y, wide, high, walk, methodOf, mask, counter, counterPlace, limit}
 use Rattle.tables.specs.Group.{elements, bytes}
-use Rattle.tables.specs.Rule.{isType, insideRule, noPart, pointsRule, counterRule, axisRule, valuesRule, limitsRule, bytesRule, roleRule, partRule, groupRule}
+use Rattle.tables.specs.Rule.{isType, insideRule, isNoPart, pointsRule, counterRule, axisRule, valuesRule, limitsRule, bytesRule, roleRule, partRule, groupRule}
 use Rattle.tables.proofs.All.{left, all-of}
 use Rattle.build.specs.Build.{flag}
 use Rattle.keeps.proofs.Bits.{and, or-left, or-right, flag-least, flag-back}
@@ -31,13 +31,13 @@ zeros (suc n) (suc k) = zeros n k
 
 module _ (T : Tables) (g m : ℕ) where
   -- zeros
-  module _ (h : (k : ℕ) → T .slots group g k ≡ getD (replicate 19 0) k 0) where
-    none-slot : (k : ℕ) → T .slots group g k ≡ 0
+  module _ (h : (k : ℕ) → T .slots groupSection g k ≡ getD (replicate 19 0) k 0) where
+    none-slot : (k : ℕ) → T .slots groupSection g k ≡ 0
     none-slot k = h k ∙ zeros 19 k
 
     pub none-keeps : groupRule T g m ≡ true
-    unfolding groupRule noPart
-    none-keeps = rw (eq-eqb (kind T g) 0 (none-slot 0)) (all-of 19 (λ k. eqb (T .slots group g k) 0) (λ k l. eq-eqb (T .slots group g k) 0 (none-slot k)))
+    unfolding groupRule isNoPart
+    none-keeps = rw (eq-eqb (kind T g) 0 (none-slot 0)) (all-of 19 (λ k. eqb (T .slots groupSection g k) 0) (λ k l. eq-eqb (T .slots groupSection g k) 0 (none-slot k)))
 
     pub none-stored : not (eqb (kind T g) 0) ≡ false
     none-stored = rw (none-slot 0)
@@ -47,7 +47,7 @@ module _ (T : Tables) (g m : ℕ) where
 
   -- data type, byte order, place, points, walk, method, mask, writing forbidden, limits, stored count
   module _ (k o p cx cy w q z f : ℕ) (a b c d e r : ℕ) (ck cp : ℕ)
-      (h : (j : ℕ) → T .slots group g j ≡ getD (k ∷ o ∷ p ∷ cx ∷ cy ∷ cx ∷ cy ∷ w ∷ q ∷ z ∷ f ∷ a ∷ b ∷ c ∷ d ∷ e ∷ r ∷ ck ∷ cp ∷ []) j 0) where
+      (h : (j : ℕ) → T .slots groupSection g j ≡ getD (k ∷ o ∷ p ∷ cx ∷ cy ∷ cx ∷ cy ∷ w ∷ q ∷ z ∷ f ∷ a ∷ b ∷ c ∷ d ∷ e ∷ r ∷ ck ∷ cp ∷ []) j 0) where
     -- what a part's numbers keep
     pub record Fine : Type 0 where
       pub type : isType k ≡ true
@@ -58,7 +58,7 @@ module _ (T : Tables) (g m : ℕ) where
       pub few-y : cy ≤ 4096
       pub bytes-in : p + shapeOf k .bytes * (cx * cy) ≤ m
       pub role : roleRule T g m ≡ true
-      pub its-method : q ≤ T .counts method
+      pub its-method : q ≤ T .counts methodSection
       pub only : f ≤ 1
       pub limits : limitsRule T g ≡ true
 
@@ -92,8 +92,8 @@ module _ (T : Tables) (g m : ℕ) where
     part-keeps t =
         let n : isType (kind T g) ≡ true = rw (h 0) (t .type) in
         rw (ne-eqb (kind T g) 0 (λ s. typed k (t .type) (sym (h 0) ∙ s)))
-        (and (and (and (and (and (and (and n (le-leb (T .slots group g 1) 1 (omega (arith, h 1, t .order)))) (points-kept (t .some-x) (t .few-x) (t .some-y) (t .few-y))) (bytes-kept (t .few-x) (t .few-y) (t .bytes-in))) (t .role))
-        (le-leb (methodOf T g) (T .counts method) (omega (arith, h 8, t .its-method)))) (le-leb (T .slots group g 10) 1 (omega (arith, h 10, t .only)))) (t .limits))
+        (and (and (and (and (and (and (and n (le-leb (T .slots groupSection g 1) 1 (omega (arith, h 1, t .order)))) (points-kept (t .some-x) (t .few-x) (t .some-y) (t .few-y))) (bytes-kept (t .few-x) (t .few-y) (t .bytes-in))) (t .role))
+        (le-leb (methodOf T g) (T .counts methodSection) (omega (arith, h 8, t .its-method)))) (le-leb (T .slots groupSection g 10) 1 (omega (arith, h 10, t .only)))) (t .limits))
 
     pub part-stored : isType k ≡ true → not (eqb (kind T g) 0) ≡ true
     part-stored t = rw (ne-eqb (kind T g) 0 (λ s. typed k t (sym (h 0) ∙ s)))
@@ -105,21 +105,21 @@ module _ (T : Tables) (g m : ℕ) where
     limits-keep s u ea eb ec ed ee er ls lu t =
         let lower : limit T g 11 ≡ s = λ i. record { negative = (ap (λ n. eqb n 1) (h 11 ∙ ea) ∙ flag-back (s .negative)) i; whole = (h 12 ∙ eb) i; tens = low i } in
         let upper : limit T g 14 ≡ u = λ i. record { negative = (ap (λ n. eqb n 1) (h 14 ∙ ed) ∙ flag-back (u .negative)) i; whole = (h 15 ∙ ee) i; tens = up i } in
-        and (and (le-leb (T .slots group g 11) 1 (omega (arith, h 11, flag-least (s .negative)))) (le-leb (T .slots group g 14) 1 (omega (arith, h 14, flag-least (u .negative))))) (rw (lower, upper) t)
+        and (and (le-leb (T .slots groupSection g 11) 1 (omega (arith, h 11, flag-least (s .negative)))) (le-leb (T .slots groupSection g 14) 1 (omega (arith, h 14, flag-least (u .negative))))) (rw (lower, upper) t)
       where
-        low : min (T .slots group g 13) 7 ≡ s .tens
+        low : min (T .slots groupSection g 13) 7 ≡ s .tens
         low = omega (arith, h 13)
 
-        up : min (T .slots group g 16) 7 ≡ u .tens
+        up : min (T .slots groupSection g 16) 7 ≡ u .tens
         up = omega (arith, h 16)
 
     -- an axis
     counter-keeps : ((ck ≡ 0) × (cp ≡ 0)) ⊎ ((isType ck ≡ true) × (cp + shapeOf ck .bytes ≤ m)) → counterRule T g m ≡ true
     unfolding counterRule insideRule
-    counter-keeps (inl n) = or-left (isType (counter T g) && leb (counterPlace T g + shapeOf (counter T g) .bytes) m) (and (eq-eqb (counter T g) 0 (h 17 ∙ n .0)) (eq-eqb (T .slots group g 18) 0 (h 18 ∙ n .1)))
+    counter-keeps (inl n) = or-left (isType (counter T g) && leb (counterPlace T g + shapeOf (counter T g) .bytes) m) (and (eq-eqb (counter T g) 0 (h 17 ∙ n .0)) (eq-eqb (T .slots groupSection g 18) 0 (h 18 ∙ n .1)))
     counter-keeps (inr n) =
         let s : counterPlace T g ≤ cp = omega (arith, h 18) in
-        or-right (eqb (counter T g) 0 && eqb (T .slots group g 18) 0) (let t : (isType ck && leb (counterPlace T g + shapeOf ck .bytes) m) ≡ true = and (n .0) (le-leb (counterPlace T g + shapeOf ck .bytes) m (omega (arith, n .1))) in let u : (isType (counter T g) && leb (counterPlace T g + shapeOf (counter T g) .bytes) m) ≡ true = rw (h 17) t in u)
+        or-right (eqb (counter T g) 0 && eqb (T .slots groupSection g 18) 0) (let t : (isType ck && leb (counterPlace T g + shapeOf ck .bytes) m) ≡ true = and (n .0) (le-leb (counterPlace T g + shapeOf ck .bytes) m (omega (arith, n .1))) in let u : (isType (counter T g) && leb (counterPlace T g + shapeOf (counter T g) .bytes) m) ≡ true = rw (h 17) t in u)
 
     pub axis-keeps : g % 3 < 2 → cx ≤ 256 → cy ≡ 1 → w ≤ 1 → z ≡ 0 → ((ck ≡ 0) × (cp ≡ 0)) ⊎ ((isType ck ≡ true) × (cp + shapeOf ck .bytes ≤ m)) → roleRule T g m ≡ true
     unfolding roleRule axisRule
@@ -136,4 +136,4 @@ module _ (T : Tables) (g m : ℕ) where
     unfolding roleRule valuesRule
     values-keep l s t ek ep =
         let u : (eqb (mask T g) 0 || maskRule (shapeOf (kind T g)) (mask T g)) ≡ true = rw (h 9, h 0) t in
-        rw (le-ltb (g % 3) 2 l) (and (and (and (walk-keeps s) u) (eq-eqb (counter T g) 0 (h 17 ∙ ek))) (eq-eqb (T .slots group g 18) 0 (h 18 ∙ ep)))
+        rw (le-ltb (g % 3) 2 l) (and (and (and (walk-keeps s) u) (eq-eqb (counter T g) 0 (h 17 ∙ ek))) (eq-eqb (T .slots groupSection g 18) 0 (h 18 ∙ ep)))

@@ -17,7 +17,7 @@ use Rattle.number.specs.Form.{isGiven}
 use Rattle.convert.specs.Whole.{signedOf, eqZ, small, allSmall}
 use Rattle.convert.specs.Limit.{formed}
 use Rattle.convert.proofs.Limits.{formed-facts}
-use Rattle.convert.specs.Method.{sameProducts, sound, judged, ratFuncAt, ratFunc, linearAt, linearOf, identicalOf}
+use Rattle.convert.specs.Method.{sameProducts, soundMethod, judgedMethod, ratFuncAt, ratFunc, linearAt, linearOf, identicalOf}
 use Rattle.convert.specs.declared.method.Coefficients.{Coefficients}
 use Rattle.records.specs.Records.{count, slot}
 use Rattle.rows.specs.Codes.{LINEAR, RAT-FUNC, TAB-VERB}
@@ -28,10 +28,10 @@ use Rattle.methods.specs.Methods.{decimalAt, coefficients, convertsFrom, conver
 use Rattle.facts.specs.Facts.{Inside, Kept}
 use Rattle.objects.proofs.Each.{find-below}
 use Rattle.tables.specs.Form as form
-use Rattle.tables.specs.Form.{method, table, entry, Tables, tablesOf, coefficient}
+use Rattle.tables.specs.Form.{methodSection, tableSection, entrySection, Tables, tablesOf, coefficient}
 use Rattle.tables.specs.Rule.{anyBelow, linearRule, identicalRule, wordRule, isFraction, isVerbal, textRule, verbalRule, signsRule, fractionRule, methodRule, tableRule, entryRule}
 use Rattle.tables.proofs.All.{all-of, any-at}
-use Rattle.build.specs.Build.{flag, isBelow, wholeOf, conversionOf, tableNumber, verbalRow, fractionRow, methodRow, entriesEnd, built}
+use Rattle.build.specs.Build.{flag, isBelow, coefficientsIn, conversionOf, tableNumber, verbalRow, fractionRow, methodRow, entriesEnd, built}
 use Rattle.build.proofs.BuiltLaws.{Within, within-of, count-tables, count-entries, slot-method, slot-table, slot-entry}
 use Rattle.keeps.proofs.Bits.{and, both-test, flag-least}
 
@@ -45,11 +45,11 @@ text-keeps n a e b f p q h = and (le-leb b f (omega (arith, h .0))) (le-leb f n 
 
 -- an answer with coefficients has sound ones
 abbrev Judged : Answer Coefficients → Type 0
-Judged a = isGiven a ≡ true → sound (wholeOf a) ≡ true
+Judged a = isGiven a ≡ true → soundMethod (coefficientsIn a) ≡ true
 
-judged-sound : (k : Coefficients) → Judged (judged k)
-unfolding judged
-judged-sound k = by-test Judged (sound k) (λ t e. t) (λ t e. absurd (false≢true e))
+judged-sound : (k : Coefficients) → Judged (judgedMethod k)
+unfolding judgedMethod
+judged-sound k = by-test Judged (soundMethod k) (λ t e. t) (λ t e. absurd (false≢true e))
 
 linear-sound : (v : View) (i : ℕ) → Judged (methods.linearAt v i)
 unfolding methods.linearAt linearOf
@@ -59,8 +59,8 @@ rat-func-sound : (v : View) (i : ℕ) → Judged (methods.ratFuncAt v i)
 unfolding methods.ratFuncAt ratFunc
 rat-func-sound v i = by-test Judged (formed _ && formed _ && formed _ && formed _) (λ t. judged-sound _) (λ t e. absurd (false≢true e))
 
-identical-sound : sound identicalOf ≡ true
-unfolding sound allSmall
+identical-sound : soundMethod identicalOf ≡ true
+unfolding soundMethod allSmall
 identical-sound = refl
 
 pub coefficients-sound : (v : View) (i : ℕ) → Judged (coefficients v i)
@@ -79,22 +79,22 @@ identical-linear : linearRule identicalOf ≡ true
 unfolding linearRule anyBelow
 identical-linear = refl
 
-linear-keeps : (v : View) (i : ℕ) → linearRule (wholeOf (methods.linearAt v i)) ≡ true
-unfolding methods.linearAt linearOf judged
+linear-keeps : (v : View) (i : ℕ) → linearRule (coefficientsIn (methods.linearAt v i)) ≡ true
+unfolding methods.linearAt linearOf judgedMethod
 linear-keeps v i =
     let a : Scaled = decimalAt v i 19 in
     let b : Scaled = decimalAt v i 22 in
-    by-test (λ (z : Answer Coefficients). linearRule (wholeOf z) ≡ true) (formed a && formed b)
-    (λ t. by-test (λ (z : Answer Coefficients). linearRule (wholeOf z) ≡ true) (sound (linearAt (max (a .tens) (b .tens)) a b))
+    by-test (λ (z : Answer Coefficients). linearRule (coefficientsIn z) ≡ true) (formed a && formed b)
+    (λ t. by-test (λ (z : Answer Coefficients). linearRule (coefficientsIn z) ≡ true) (soundMethod (linearAt (max (a .tens) (b .tens)) a b))
     (λ u. linear-word (max (a .tens) (b .tens)) a b (omega (arith, formed-facts a (and-left (formed a) (formed b) t) .tens-most, formed-facts b (and-right (formed a) (formed b) t) .tens-most)))
     (λ u. identical-linear))
     (λ t. identical-linear)
 
-word-keeps : (v : View) (i : ℕ) → wordRule (conversionOf v i) (wholeOf (coefficients v i)) ≡ true
+word-keeps : (v : View) (i : ℕ) → wordRule (conversionOf v i) (coefficientsIn (coefficients v i)) ≡ true
 unfolding conversionOf coefficients wordRule identicalRule
 word-keeps v i =
-    both-test (λ (w : ℕ) (z : Answer Coefficients). wordRule w (wholeOf z) ≡ true) (eqb (v .slots records.method i 4) LINEAR) (λ t. linear-keeps v i)
-    (λ t. both-test (λ (w : ℕ) (z : Answer Coefficients). wordRule w (wholeOf z) ≡ true) (eqb (v .slots records.method i 4) RAT-FUNC) (λ s. refl) (λ s. refl))
+    both-test (λ (w : ℕ) (z : Answer Coefficients). wordRule w (coefficientsIn z) ≡ true) (eqb (v .slots records.method i 4) LINEAR) (λ t. linear-keeps v i)
+    (λ t. both-test (λ (w : ℕ) (z : Answer Coefficients). wordRule w (coefficientsIn z) ≡ true) (eqb (v .slots records.method i 4) RAT-FUNC) (λ s. refl) (λ s. refl))
 
 -- where the conversions are accepted each method has coefficients
 converts-each : (f : ℕ) (v : View) (i : ℕ) → convertsFrom f v i ≡ text.given tt → (k : ℕ) → k < f → isGiven (coefficients v (i + k)) ≡ true
@@ -129,14 +129,14 @@ zero-front (suc m) (suc k) n h = zero-front m k n (omega arith)
 module _ (T : Tables) (i : ℕ) where
   -- method i's numbers are those of a row
   abbrev Holds : List ℕ → Type 0
-  Holds r = (k : ℕ) → T .slots method i k ≡ getD r k 0
+  Holds r = (k : ℕ) → T .slots methodSection i k ≡ getD r k 0
 
-  verbal-keeps : (n : ℕ) → Holds (verbalRow n) → (n ≡ 0 → ⊥) → n ≤ T .counts table → methodRule T i ≡ true
+  verbal-keeps : (n : ℕ) → Holds (verbalRow n) → (n ≡ 0 → ⊥) → n ≤ T .counts tableSection → methodRule T i ≡ true
   unfolding methodRule verbalRule
   verbal-keeps n h z l =
       rw (h 0)
-      (and (and (all-of 8 (λ k. eqb (T .slots method i (k + 1)) 0) (λ k p. eq-eqb (T .slots method i (k + 1)) 0 (rw (add-one k) (h (suc k) ∙ zero-front 8 k n p))))
-      (le-leb 1 (T .slots method i 9) (omega (arith, h 9, z)))) (le-leb (T .slots method i 9) (T .counts table) (omega (arith, h 9))))
+      (and (and (all-of 8 (λ k. eqb (T .slots methodSection i (k + 1)) 0) (λ k p. eq-eqb (T .slots methodSection i (k + 1)) 0 (rw (add-one k) (h (suc k) ∙ zero-front 8 k n p))))
+      (le-leb 1 (T .slots methodSection i 9) (omega (arith, h 9, z)))) (le-leb (T .slots methodSection i 9) (T .counts tableSection) (omega (arith, h 9))))
 
   -- a method j of the records with coefficients k
   module _ (v : View) (j : ℕ) (k : Coefficients) (h : Holds (conversionOf v j ∷ flag (isBelow (k .b)) ∷ natAbs (k .b) ∷ flag (isBelow (k .c)) ∷ natAbs (k .c) ∷ flag (isBelow (k .e)) ∷ natAbs (k .e) ∷ flag (isBelow (k .f)) ∷ natAbs (k .f) ∷ 0 ∷ [])) where
@@ -149,14 +149,14 @@ module _ (T : Tables) (i : ℕ) where
     signs-keep : signsRule T i ≡ true
     unfolding signsRule
     signs-keep =
-        and (and (and (le-leb (T .slots method i 1) 1 (omega (arith, h 1, flag-least (isBelow (k .b))))) (le-leb (T .slots method i 3) 1 (omega (arith, h 3, flag-least (isBelow (k .c))))))
-        (le-leb (T .slots method i 5) 1 (omega (arith, h 5, flag-least (isBelow (k .e)))))) (le-leb (T .slots method i 7) 1 (omega (arith, h 7, flag-least (isBelow (k .f)))))
+        and (and (and (le-leb (T .slots methodSection i 1) 1 (omega (arith, h 1, flag-least (isBelow (k .b))))) (le-leb (T .slots methodSection i 3) 1 (omega (arith, h 3, flag-least (isBelow (k .c))))))
+        (le-leb (T .slots methodSection i 5) 1 (omega (arith, h 5, flag-least (isBelow (k .e)))))) (le-leb (T .slots methodSection i 7) 1 (omega (arith, h 7, flag-least (isBelow (k .f)))))
 
-    all-small : sound k ≡ true → allSmall k ≡ true
-    unfolding sound
+    all-small : soundMethod k ≡ true → allSmall k ≡ true
+    unfolding soundMethod
     all-small e = and-left (allSmall k) (not (sameProducts k)) e
 
-    smalls : sound k ≡ true → (natAbs (k .b) ≤ 1000000000) × (natAbs (k .c) ≤ 1000000000) × (natAbs (k .e) ≤ 1000000000) × (natAbs (k .f) ≤ 1000000000)
+    smalls : soundMethod k ≡ true → (natAbs (k .b) ≤ 1000000000) × (natAbs (k .c) ≤ 1000000000) × (natAbs (k .e) ≤ 1000000000) × (natAbs (k .f) ≤ 1000000000)
     unfolding allSmall
     smalls e =
         let a = all-small e in
@@ -168,7 +168,7 @@ module _ (T : Tables) (i : ℕ) where
           leb-true (natAbs (k .f)) 1000000000 (and-right (small (k .b) && small (k .c) && small (k .e)) (small (k .f)) a),
         )
 
-    coefficients-are : sound k ≡ true → form.coefficients T i ≡ k
+    coefficients-are : soundMethod k ≡ true → form.coefficients T i ≡ k
     coefficients-are e = let s = smalls e in λ p. record { b = first (s .0) p; c = second (s .1) p; e = third (s .2) p; f = fourth (s .3) p } where
       first : natAbs (k .b) ≤ 1000000000 → coefficient T i 1 ≡ k .b
       first l = rw (h 1, h 2) (signed-back (k .b) l)
@@ -182,12 +182,12 @@ module _ (T : Tables) (i : ℕ) where
       fourth : natAbs (k .f) ≤ 1000000000 → coefficient T i 7 ≡ k .f
       fourth l = rw (h 7, h 8) (signed-back (k .f) l)
 
-    fraction-keeps : sound k ≡ true → wordRule (conversionOf v j) k ≡ true → methodRule T i ≡ true
+    fraction-keeps : soundMethod k ≡ true → wordRule (conversionOf v j) k ≡ true → methodRule T i ≡ true
     unfolding methodRule fractionRule
     fraction-keeps e f =
-        let c : isVerbal (T .slots method i 0) ≡ false = rw (h 0) (conversion-kind .1) in
-        let d : isFraction (T .slots method i 0) ≡ true = rw (h 0) (conversion-kind .0) in
-        rw c (and (and (and (and d signs-keep) (rw (coefficients-are e) e)) (rw (coefficients-are e, h 0) f)) (eq-eqb (T .slots method i 9) 0 (h 9)))
+        let c : isVerbal (T .slots methodSection i 0) ≡ false = rw (h 0) (conversion-kind .1) in
+        let d : isFraction (T .slots methodSection i 0) ≡ true = rw (h 0) (conversion-kind .0) in
+        rw c (and (and (and (and d signs-keep) (rw (coefficients-are e) e)) (rw (coefficients-are e, h 0) f)) (eq-eqb (T .slots methodSection i 9) 0 (h 9)))
 
 module _ (image : List ℕ) (base : ℕ) (x : List ℕ) (d : List (List (List ℕ))) (n : ℕ) (k : Kept x d) where
   abbrev T : Tables
@@ -202,14 +202,14 @@ module _ (image : List ℕ) (base : ℕ) (x : List ℕ) (d : List (List (List �
     t : ℕ
     t = tableNumber x (view d) i
 
-    few : t ≤ T .counts table
+    few : t ≤ T .counts tableSection
     few = rw (count-tables image base x (view d) n w) (find-below x (view d) records.table (slot d records.method i 26) (slot d records.method i 27))
 
     verbal : (eqb (slot d records.method i 4) TAB-VERB && not (eqb t 0)) ≡ true → Holds T i (verbalRow t) → methodRule T i ≡ true
     verbal e q = verbal-keeps T i t q (eqb-false t 0 (not-true (eqb t 0) (and-right (eqb (slot d records.method i 4) TAB-VERB) (not (eqb t 0)) e))) few
 
     fraction : Holds T i (fractionRow (view d) i) → methodRule T i ≡ true
-    fraction q = fraction-keeps T i (view d) i (wholeOf (coefficients (view d) i)) q (coefficients-sound (view d) i (converted (view d) c i h)) (word-keeps (view d) i)
+    fraction q = fraction-keeps T i (view d) i (coefficientsIn (coefficients (view d) i)) q (coefficients-sound (view d) i (converted (view d) c i h)) (word-keeps (view d) i)
 
     row : Holds T i (methodRow x (view d) i) → methodRule T i ≡ true
     row = by-test (λ (r : List ℕ). Holds T i r → methodRule T i ≡ true) (eqb (slot d records.method i 4) TAB-VERB && not (eqb t 0)) verbal (λ e. fraction)
@@ -219,8 +219,8 @@ module _ (image : List ℕ) (base : ℕ) (x : List ℕ) (d : List (List (List �
   table-keeps i h =
       let e = slot-table image base x (view d) n w i in
       let s : slot d records.table i 2 + (entriesEnd (view d) i - slot d records.table i 2) ≤ count d records.entry = fit in
-      and (le-leb (T .slots table i 0 + T .slots table i 1) (T .counts entry) (omega (arith, e 0 h, e 1 h, count-entries image base x (view d) n w)))
-      (text-keeps (length x) (slot d records.table i 7) (slot d records.table i 8) (T .slots table i 2) (T .slots table i 3) (e 2 h) (e 3 h) (k .defaults i))
+      and (le-leb (T .slots tableSection i 0 + T .slots tableSection i 1) (T .counts entrySection) (omega (arith, e 0 h, e 1 h, count-entries image base x (view d) n w)))
+      (text-keeps (length x) (slot d records.table i 7) (slot d records.table i 8) (T .slots tableSection i 2) (T .slots tableSection i 3) (e 2 h) (e 3 h) (k .defaults i))
     where
       end : entriesEnd (view d) i ≤ count d records.entry
       end = by-test (λ (m : ℕ). m ≤ count d records.entry) (ltb (i + 1) (count d records.table)) (λ t. k .firsts (i + 1)) (λ t. omega arith)
@@ -232,5 +232,5 @@ module _ (image : List ℕ) (base : ℕ) (x : List ℕ) (d : List (List (List �
   unfolding entryRule
   entry-keeps i h =
       let e = slot-entry image base x (view d) n w i in
-      and (le-leb (T .slots entry i 0) 1 (omega (arith, e 0 h)))
-      (text-keeps (length x) (slot d records.entry i 2) (slot d records.entry i 3) (T .slots entry i 2) (T .slots entry i 3) (e 2 h) (e 3 h) (k .texts i))
+      and (le-leb (T .slots entrySection i 0) 1 (omega (arith, e 0 h)))
+      (text-keeps (length x) (slot d records.entry i 2) (slot d records.entry i 3) (T .slots entrySection i 2) (T .slots entrySection i 3) (e 2 h) (e 3 h) (k .texts i))

@@ -30,7 +30,7 @@ use Rattle.facts.specs.Facts.{Kept}
 use Rattle.facts.proofs.Keeps.{read-keeps}
 use Rattle.tree.specs.Points.{Pointed}
 use Rattle.tree.proofs.Points.{read-pointed}
-use Rattle.tables.specs.Form.{sections, head, object, group, method, table, entry, Tables, tablesOf, total}
+use Rattle.tables.specs.Form.{tableSections, headSection, objectSection, groupSection, methodSection, tableSection, entrySection, Tables, tablesOf, total}
 use Rattle.tables.specs.Group.{sumBelow, elements}
 use Rattle.tables.specs.Rule.{allBelow, objectRule, groupRule, methodRule, tableRule, entryRule, headRule, ruled, keepsRule}
 use Rattle.tables.proofs.All.{all-of}
@@ -65,14 +65,14 @@ module _ (image : List ℕ) (base : ℕ) (x : List ℕ) (d : List (List (List �
     pointing : (i : ℕ) (l : i < count d records.object) → Pointing image base x d n k i l (stood i l)
     pointing i l = some-points image base x d k p f stood i l
 
-    groups-keep : allBelow (T .counts group) (λ g. groupRule T g (length image)) ≡ true
+    groups-keep : allBelow (T .counts groupSection) (λ g. groupRule T g (length image)) ≡ true
     groups-keep = rw (count-groups image base x (view d) n w) (all-threes (count d records.object) (λ g. groupRule T g (length image)) each) where
       each : (i : ℕ) → i < count d records.object → (groupRule T (i * 3) (length image) ≡ true) × (groupRule T (i * 3 + 1) (length image) ≡ true) × (groupRule T (i * 3 + 2) (length image) ≡ true)
       each i l = (x-ruling image base x d n k i l (stood i l) (pointing i l) .keeps, y-ruling image base x d n k i l (stood i l) (pointing i l) .keeps, values-ruling image base x d n k i l (stood i l) (pointing i l) .keeps)
 
     -- an object's elements are those of its three groups
     three-are : (i : ℕ) → i < count d records.object → elementsOf image base x (view d) i ≡ elements T (i * 3) + elements T (i * 3 + 1) + elements T (i * 3 + 2)
-    unfolding elementsOf place.elements
+    unfolding elementsOf place.elementsStored
     three-are i l =
         rw (x-ruling image base x d n k i l (stood i l) (pointing i l) .many-is, y-ruling image base x d n k i l (stood i l) (pointing i l) .many-is, values-ruling image base x d n k i l (stood i l) (pointing i l) .many-is)
 
@@ -83,10 +83,10 @@ module _ (image : List ℕ) (base : ℕ) (x : List ℕ) (d : List (List (List �
     unfolding headRule
     head-keeps =
         let e = slot-head image base x (view d) n w in
-        let c : sumBelow (T .counts group) (elements T) ≡ n = ap (λ m. sumBelow m (elements T)) (count-groups image base x (view d) n w) ∙ sym total-sum in
-        let o : T .counts group ≡ T .counts object * 3 = count-groups image base x (view d) n w ∙ ap (λ m. m * 3) (sym (count-objects image base x (view d) n w)) in
-        and (and (and (and (and (eq-eqb (T .counts head) 1 (count-head image base x (view d) n w)) (eq-eqb (T .slots head 0 0) 0 (e 0))) (eq-eqb (T .slots head 0 1) 0 (e 1)))
-        (eq-eqb (total T) (sumBelow (T .counts group) (elements T)) (e 2 ∙ sym c))) (le-leb (total T) 4096 (omega (arith, e 2, total-most image base x (view d) (w .objects) n j)))) (eq-eqb (T .counts group) (T .counts object * 3) o)
+        let c : sumBelow (T .counts groupSection) (elements T) ≡ n = ap (λ m. sumBelow m (elements T)) (count-groups image base x (view d) n w) ∙ sym total-sum in
+        let o : T .counts groupSection ≡ T .counts objectSection * 3 = count-groups image base x (view d) n w ∙ ap (λ m. m * 3) (sym (count-objects image base x (view d) n w)) in
+        and (and (and (and (and (eq-eqb (T .counts headSection) 1 (count-head image base x (view d) n w)) (eq-eqb (T .slots headSection 0 0) 0 (e 0))) (eq-eqb (T .slots headSection 0 1) 0 (e 1)))
+        (eq-eqb (total T) (sumBelow (T .counts groupSection) (elements T)) (e 2 ∙ sym c))) (le-leb (total T) 4096 (omega (arith, e 2, total-most image base x (view d) (w .objects) n j)))) (eq-eqb (T .counts groupSection) (T .counts objectSection * 3) o)
 
     kept-ruled : converts (view d) ≡ given tt → ruled T (length x) (length image) ≡ true
     unfolding ruled
@@ -104,8 +104,8 @@ built-keeps image x base n d r q c j =
     kept-ruled image base x d n (read-keeps x d r) j (read-pointed x d r) (shares image base x d (stages image base x d r q c n j)) c
 
 -- the same in so many cells
-pub load-keeps : (image : List ℕ) (base : ℕ) (x : List ℕ) (D : List (List (List ℕ))) → described image base x ≡ given D → (cells : ℕ) → room sections ≤ cells
-    → keepsRule (length x) (length image) (encode sections cells D) ≡ true
+pub load-keeps : (image : List ℕ) (base : ℕ) (x : List ℕ) (D : List (List (List ℕ))) → described image base x ≡ given D → (cells : ℕ) → room tableSections ≤ cells
+    → keepsRule (length x) (length image) (encode tableSections cells D) ≡ true
 load-keeps image base x D h cells l =
     let s : Drawn image base x D = drawn image base x D h in
     let k : Kept x (s .records) = read-keeps x (s .records) (s .is-read) in
@@ -119,15 +119,15 @@ module _ (x image : List ℕ) (base : ℕ) (lent work : List ℕ) where
   abbrev Rules : Loaded → Type 0
   Rules r = r .answer ≡ given tt → keepsRule (length x) (length image) (r .tables) ≡ true
 
-  left-keeps : room sections ≤ length lent → (a : Answer (List (List (List ℕ)))) → described image base x ≡ a → Rules (left (length lent) (length work) a)
+  left-keeps : room tableSections ≤ length lent → (a : Answer (List (List (List ℕ)))) → described image base x ≡ a → Rules (left (length lent) (length work) a)
   left-keeps l (given D) e h = load-keeps image base x D e (length lent) l
   left-keeps l (refused k p) e h = let z : _≡_ {A = ℕ} 0 1 = cc in absurd (omega arith)
 
-  room-enough : (sizesFit (length x) (length image) base (length lent) && leb (room records.sections) (length work)) ≡ true → room sections ≤ length lent
+  room-enough : (sizesFit (length x) (length image) base (length lent) && leb (room records.sections) (length work)) ≡ true → room tableSections ≤ length lent
   unfolding sizesFit
   room-enough h =
-      leb-true (room sections) (length lent)
-      (and-right (leb (length x) (2 ^ 24) && leb (length image) (2 ^ 20) && leb (base + length image) (2 ^ 32)) (leb (room sections) (length lent))
+      leb-true (room tableSections) (length lent)
+      (and-right (leb (length x) (2 ^ 24) && leb (length image) (2 ^ 20) && leb (base + length image) (2 ^ 32)) (leb (room tableSections) (length lent))
       (and-left (sizesFit (length x) (length image) base (length lent)) (leb (room records.sections) (length work)) h))
 
   pub loaded-keeps : loaded x image base lent work .answer ≡ given tt → keepsRule (length x) (length image) (loaded x image base lent work .tables) ≡ true

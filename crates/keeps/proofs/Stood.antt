@@ -17,8 +17,8 @@ use Rattle.grammar.specs.Move.{View}
 use Rattle.place.specs.Inside.{inside}
 use Rattle.place.specs.Judge.{allInside}
 use Rattle.place.specs.Order.{inOrder, parts}
-use Rattle.place.specs.Rules.{matching, distinct, counted, sound}
-use Rattle.place.specs.Walk.{startOf, countIn, countAt, pointsOf, within, countXAt, countYAt, standing, placeOne, step, allPlaced, start, placement}
+use Rattle.place.specs.Rules.{matching, distinct, counted, soundLayout}
+use Rattle.place.specs.Walk.{startOf, countStored, countAt, pointsOf, within, countXAt, countYAt, standing, placeOne, step, allPlaced, start, placement}
 use Rattle.place.specs.Align.{alignment}
 use Rattle.place.specs.declared.judge.Standing.{Standing}
 use Rattle.place.specs.declared.order.Layout.{Layout}
@@ -95,8 +95,8 @@ module _ (g : Ground) (n : Need) (image : List ℕ) where
   in-turn m true false e = tt
   in-turn m false b e = tt
 
-  in-some : (most : ℕ) (z : ℤ) → Some (countIn most z)
-  unfolding countIn
+  in-some : (most : ℕ) (z : ℤ) → Some (countStored most z)
+  unfolding countStored
   in-some most (pos m) = in-turn m (leb 1 m) (leb m most) refl
   in-some most (negsuc m) = tt
 
@@ -140,22 +140,22 @@ module _ (g : Ground) (n : Need) (image : List ℕ) where
     placed-points : Points (placement g n image l)
     unfolding placement
     placed-points =
-        by-test Points (sound n l)
+        by-test Points (soundLayout n l)
         (λ t. by-test Points (within (n .x) && within (n .y)) (λ s. all-points (inOrder (parts l)) (given (start g n)) start-points) (λ s. tt))
         (λ t. tt)
 
     -- a placement that was reached has a sound layout
     abbrev Sounds : Answer Reached → Type 0
-    Sounds (given s) = sound n l ≡ true
+    Sounds (given s) = soundLayout n l ≡ true
     Sounds (refused k) = Unit {0}
 
-    all-given : sound n l ≡ true → (a : Answer Reached) → Sounds a
+    all-given : soundLayout n l ≡ true → (a : Answer Reached) → Sounds a
     all-given e (given s) = e
     all-given e (refused k) = tt
 
     placed-sounds : Sounds (placement g n image l)
     unfolding placement
-    placed-sounds = by-test Sounds (sound n l) (λ t. all-given t (cond (within (n .x) && within (n .y)) (allPlaced g n image (given (start g n)) (inOrder (parts l))) (refused 13))) (λ t. tt)
+    placed-sounds = by-test Sounds (soundLayout n l) (λ t. all-given t (cond (within (n .x) && within (n .y)) (allPlaced g n image (given (start g n)) (inOrder (parts l))) (refused 13))) (λ t. tt)
 
 -- where there is no axis there is one point
 pub one-point : (a : Axis) → a ≡ noAxis → 1 ≤ pointsOf a
@@ -178,8 +178,8 @@ module _ (image : List ℕ) (base : ℕ) (x : List ℕ) (v : View) (i used : ℕ
   unfolding placesOf
   places-are = rw (h .placed)
 
-  sound-match : (n : Need) (l : Layout) → sound n l ≡ true → matching n l ≡ true
-  unfolding sound
+  sound-match : (n : Need) (l : Layout) → soundLayout n l ≡ true → matching n l ≡ true
+  unfolding soundLayout
   sound-match n l e = and-left (matching n l) (distinct l) (and-left (matching n l && distinct l) (counted l) e)
 
   pub share-stood : Stood image base x v i

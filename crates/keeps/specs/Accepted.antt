@@ -11,7 +11,7 @@ use Rattle.records.specs.Records.{count, slot}
 use Rattle.rows.specs.Sections.{method, object}
 use Rattle.grammar.specs.Move.{view}
 use Rattle.grammar.specs.Read.{read}
-use Rattle.refer.specs.Refer.{rows, leads}
+use Rattle.refer.specs.Refer.{referenceRows, leads}
 use Rattle.refer.specs.declared.Row.{Row}
 use Rattle.methods.specs.Methods.{coefficients}
 use Rattle.place.specs.Judge.{allInside}
@@ -32,7 +32,7 @@ allElements image base x d = sumBelow (count d object) (elementsOf image base x 
 -- the records d, read from the description x, keep the rules of the stages after the text, with an image at a base address
 pub record Accepted (image : List ℕ) (base : ℕ) (x : List ℕ) (d : List (List (List ℕ))) : Type 0 where
   -- "a reference that leads nowhere stops the load": each that is there, its place past the last byte not 0, leads somewhere
-  pub references : (r : Row) → Among r rows → (i : ℕ) → i < count d (r .sec) → (slot d (r .sec) i (r .slot + 1) ≡ 0 → ⊥)
+  pub references : (r : Row) → Among r referenceRows → (i : ℕ) → i < count d (r .sec) → (slot d (r .sec) i (r .slot + 1) ≡ 0 → ⊥)
       → leads x (view d) r (slot d (r .sec) i (r .slot)) (slot d (r .sec) i (r .slot + 1)) ≡ true
   -- "then conversions": every method has its coefficients
   pub conversions : (i : ℕ) → i < count d method → isGiven (coefficients (view d) i) ≡ true

@@ -15,8 +15,8 @@ use Rattle.convert.specs.declared.asked.RawAnswer.the-variants as wanted
 use Rattle.tables.specs.Form.{tablesIn, total, kind, first, mask}
 use Rattle.tables.specs.Group.{groupOf, sumBelow, elements, bytes, placeOf}
 use Rattle.look.specs.Element.{pastRecords}
-use Rattle.look.specs.Calls.{checked, standing, judged, Kept, kept, room, hasRoom, groups, remade, refreshed, After, afterwards, lentBy, making, Wanted, request, wantedRaw, stored, writtenTo, writing}
-use Rattle.look.specs.Steps.{picked, checkedNo, standingNo}
+use Rattle.look.specs.Calls.{checked, judgedElement, judgedRequest, Kept, kept, room, hasRoom, groups, remade, refreshed, After, afterwards, lentBy, making, Wanted, request, wantedRaw, stored, writtenTo, writing}
+use Rattle.look.specs.Steps.{picked, checkedNo, elementNo}
 use Rattle.look.specs.Told.{after}
 use Rattle.look.specs.declared.call.CallAnswer.the-variants as call
 use Rattle.look.proofs.CheckLaws.{checked-refused, checked-passed, group-is}
@@ -47,12 +47,12 @@ module _ (t : List ℕ) (n base : ℕ) (k : Kept) (lines : ℕ) (pl : lines ≡ 
         ∙ ap (λ (b : Bool). afterwards (checked t (lentBy n base k) b (given (tt {0}))) k (λ _. remade t k)) has-room
 
   -- ---- writing
-  module _ (o p i : ℕ) (q : r ≡ standingNo t (lentBy n base k) enough o p i) (w : Wanted) where
+  module _ (o p i : ℕ) (q : r ≡ elementNo t (lentBy n base k) enough o p i) (w : Wanted) where
     writing-as : Answer ℤ → After
     writing-as a = afterwards a k (writtenTo t (groupOf o p) i k)
 
-    judged-is : judged t (lentBy n base k) (hasRoom t k) (request o p i w) ≡ standing t (lentBy n base k) enough o p i (wantedRaw (tablesIn t) (groupOf o p) w)
-    unfolding judged
+    judged-is : judgedRequest t (lentBy n base k) (hasRoom t k) (request o p i w) ≡ judgedElement t (lentBy n base k) enough o p i (wantedRaw (tablesIn t) (groupOf o p) w)
+    unfolding judgedRequest
     judged-is = rw (← has-room)
 
     pub write-refused : (r ≡ 0 → ⊥) → after (call.Refused r) k ≡ writing t n base k (request o p i w)

@@ -15,8 +15,8 @@ use Rattle.cell.specs.declared.kind.Shape.{Shape}
 use Rattle.tables.specs.Form.{tablesIn, forbidden, counter, counterPlace}
 use Rattle.tables.specs.Group.{groupOf, bytes, placeOf}
 use Rattle.look.specs.Element.{pastRecords, shares}
-use Rattle.look.specs.Calls.{Lent, checked, isElement, groups, anyBelow, isCounted, onCount, free, standing}
-use Rattle.look.specs.Steps.{refusalOf, checkedNo, freeNo, standingNo}
+use Rattle.look.specs.Calls.{Lent, checked, isElement, groups, anyBelow, isCounted, onCount, writable, judgedElement}
+use Rattle.look.specs.Steps.{refusalOf, checkedNo, writableNo, elementNo}
 use Rattle.look.proofs.CheckLaws.{two, checked-refused, checked-passed, group-is}
 
 -- ---- a stored count
@@ -69,20 +69,20 @@ pub ruleset counts = (counted-is, clear-start, clear-more, on-count, off-count, 
 
 -- ---- 21 and 19
 module _ (t : List ℕ) (g i : ℕ) (a : Bool) (e : a ≡ forbidden (tablesIn t) g) where
-  pub free-forbidden : a ≡ true → 21 ≡ freeNo t g i
-  unfolding free
+  pub free-forbidden : a ≡ true → 21 ≡ writableNo t g i
+  unfolding writable
   free-forbidden h = rw (← e, h)
 
   module _ (h : a ≡ false) (p w : ℕ) (b : Bool) (pp : p ≡ placeOf (tablesIn t) g i) (pw : w ≡ bytes (tablesIn t) g) (f : b ≡ onCount t p (p + w)) where
     is-on : b ≡ onCount t (placeOf (tablesIn t) g i) (placeOf (tablesIn t) g i + bytes (tablesIn t) g)
     is-on = f ∙ rw (pp, pw)
 
-    pub free-count : b ≡ true → 19 ≡ freeNo t g i
-    unfolding free
+    pub free-count : b ≡ true → 19 ≡ writableNo t g i
+    unfolding writable
     free-count k = rw (← e, h, ← is-on, k)
 
-    pub free-is : b ≡ false → 0 ≡ freeNo t g i
-    unfolding free
+    pub free-is : b ≡ false → 0 ≡ writableNo t g i
+    unfolding writable
     free-is k = rw (← e, h, ← is-on, k)
 
 pub ruleset frees = (free-forbidden, free-count, free-is, needs)
@@ -93,13 +93,13 @@ two-pass true true u v x h = refl
 two-pass true false u v x h = absurd (omega arith)
 two-pass false b u v x h = absurd (omega arith)
 
-module _ {A : Type 0} (t : List ℕ) (g i r : ℕ) (p : r ≡ freeNo t g i) (x : Answer A) where
-  free-refused : (r ≡ 0 → ⊥) → refused r ≡ free t g i x
-  unfolding free
+module _ {A : Type 0} (t : List ℕ) (g i r : ℕ) (p : r ≡ writableNo t g i) (x : Answer A) where
+  free-refused : (r ≡ 0 → ⊥) → refused r ≡ writable t g i x
+  unfolding writable
   free-refused h = rw p (two (not (forbidden (tablesIn t) g)) (not (onCount t (placeOf (tablesIn t) g i) (placeOf (tablesIn t) g i + bytes (tablesIn t) g))) 21 19 x (λ z. h (p ∙ z)))
 
-  free-passed : r ≡ 0 → x ≡ free t g i x
-  unfolding free
+  free-passed : r ≡ 0 → x ≡ writable t g i x
+  unfolding writable
   free-passed h = two-pass (not (forbidden (tablesIn t) g)) (not (onCount t (placeOf (tablesIn t) g i) (placeOf (tablesIn t) g i + bytes (tablesIn t) g))) 20 18 x (sym p ∙ h)
 
 -- ---- 20, 22, 14, 21, 19
@@ -107,20 +107,20 @@ module _ (t : List ℕ) (l : Lent) (enough : Bool) (o p i r : ℕ) (q : r ≡ ch
   no-of : (x : Answer (Unit {0})) → x ≡ checked t l enough x → refusalOf x ≡ refusalOf (checked t l enough x)
   no-of x e = ap (λ (y : Answer (Unit {0})). refusalOf y) e
 
-  pub stand-refused : (r ≡ 0 → ⊥) → r ≡ standingNo t l enough o p i
-  unfolding standing
-  stand-refused h = ap (λ (y : Answer (Unit {0})). refusalOf y) (checked-refused t l enough r q (cond (isElement (tablesIn t) o p i) (free t (groupOf o p) i (given (tt {0}))) (refused 14)) h)
+  pub stand-refused : (r ≡ 0 → ⊥) → r ≡ elementNo t l enough o p i
+  unfolding judgedElement
+  stand-refused h = ap (λ (y : Answer (Unit {0})). refusalOf y) (checked-refused t l enough r q (cond (isElement (tablesIn t) o p i) (writable t (groupOf o p) i (given (tt {0}))) (refused 14)) h)
 
   module _ (h : r ≡ 0) (b : Bool) (e : b ≡ isElement (tablesIn t) o p i) where
-    pub stand-none : b ≡ false → 14 ≡ standingNo t l enough o p i
-    unfolding standing
+    pub stand-none : b ≡ false → 14 ≡ elementNo t l enough o p i
+    unfolding judgedElement
     stand-none k = rw (← e, k) (no-of (refused 14) (checked-passed t l enough r q (refused 14) h))
 
-    pub stand-is : (g n : ℕ) → b ≡ true → g ≡ min (groupOf o p) pastRecords → n ≡ freeNo t g i → n ≡ standingNo t l enough o p i
-    unfolding standing
+    pub stand-is : (g n : ℕ) → b ≡ true → g ≡ min (groupOf o p) pastRecords → n ≡ writableNo t g i → n ≡ elementNo t l enough o p i
+    unfolding judgedElement
     stand-is g n k f w =
         w ∙ rw (group-is t o p i b g e k f, ← e, k)
-        (no-of (free t (groupOf o p) i (given (tt {0}))) (checked-passed t l enough r q (free t (groupOf o p) i (given (tt {0}))) h))
+        (no-of (writable t (groupOf o p) i (given (tt {0}))) (checked-passed t l enough r q (writable t (groupOf o p) i (given (tt {0}))) h))
 
 pub ruleset stands = (stand-refused, stand-none, stand-is, needs)
 
@@ -128,7 +128,7 @@ pub ruleset stands = (stand-refused, stand-none, stand-is, needs)
 pub record Stands (t : List ℕ) (l : Lent) (enough : Bool) (o p i : ℕ) : Type 0 where
   pub checks : checkedNo t l enough ≡ 0
   pub element : isElement (tablesIn t) o p i ≡ true
-  pub frees : freeNo t (groupOf o p) i ≡ 0
+  pub frees : writableNo t (groupOf o p) i ≡ 0
 
 module _ (t : List ℕ) (l : Lent) (enough : Bool) (o p i : ℕ) where
   abbrev after-check : {A : Type 0} → ℕ → Bool → ℕ → Answer A → Answer A
@@ -138,21 +138,21 @@ module _ (t : List ℕ) (l : Lent) (enough : Bool) (o p i : ℕ) where
   after-check (suc m) b n x = refused (suc m)
 
   -- the three judgements by their numbers
-  standing-by : {A : Type 0} (x : Answer A) → standing t l enough o p i x ≡ after-check (checkedNo t l enough) (isElement (tablesIn t) o p i) (freeNo t (groupOf o p) i) x
-  unfolding standing
+  standing-by : {A : Type 0} (x : Answer A) → judgedElement t l enough o p i x ≡ after-check (checkedNo t l enough) (isElement (tablesIn t) o p i) (writableNo t (groupOf o p) i) x
+  unfolding judgedElement
   standing-by {A} x = by-check (checkedNo t l enough) refl
     where
-      by-free : (n : ℕ) → freeNo t (groupOf o p) i ≡ n → free t (groupOf o p) i x ≡ after-check 0 true n x
+      by-free : (n : ℕ) → writableNo t (groupOf o p) i ≡ n → writable t (groupOf o p) i x ≡ after-check 0 true n x
       by-free zero e = sym (free-passed t (groupOf o p) i 0 (sym e) x refl)
       by-free (suc n) e = sym (free-refused t (groupOf o p) i (suc n) (sym e) x (λ z. omega arith))
 
-      by-element : (b : Bool) → isElement (tablesIn t) o p i ≡ b → cond b (free t (groupOf o p) i x) (refused 14) ≡ after-check 0 b (freeNo t (groupOf o p) i) x
-      by-element true e = by-free (freeNo t (groupOf o p) i) refl
+      by-element : (b : Bool) → isElement (tablesIn t) o p i ≡ b → cond b (writable t (groupOf o p) i x) (refused 14) ≡ after-check 0 b (writableNo t (groupOf o p) i) x
+      by-element true e = by-free (writableNo t (groupOf o p) i) refl
       by-element false e = refl
 
-      by-check : (m : ℕ) → checkedNo t l enough ≡ m → standing t l enough o p i x ≡ after-check m (isElement (tablesIn t) o p i) (freeNo t (groupOf o p) i) x
-      by-check zero e = sym (checked-passed t l enough 0 (sym e) (cond (isElement (tablesIn t) o p i) (free t (groupOf o p) i x) (refused 14)) refl) ∙ by-element (isElement (tablesIn t) o p i) refl
-      by-check (suc m) e = sym (checked-refused t l enough (suc m) (sym e) (cond (isElement (tablesIn t) o p i) (free t (groupOf o p) i x) (refused 14)) (λ z. omega arith))
+      by-check : (m : ℕ) → checkedNo t l enough ≡ m → judgedElement t l enough o p i x ≡ after-check m (isElement (tablesIn t) o p i) (writableNo t (groupOf o p) i) x
+      by-check zero e = sym (checked-passed t l enough 0 (sym e) (cond (isElement (tablesIn t) o p i) (writable t (groupOf o p) i x) (refused 14)) refl) ∙ by-element (isElement (tablesIn t) o p i) refl
+      by-check (suc m) e = sym (checked-refused t l enough (suc m) (sym e) (cond (isElement (tablesIn t) o p i) (writable t (groupOf o p) i x) (refused 14)) (λ z. omega arith))
 
   by-refused : {A : Type 0} (m : ℕ) (b : Bool) (n : ℕ) (x : Answer A) (r : ℕ) → r ≡ refusalOf (after-check m b n (given (tt {0}))) → (r ≡ 0 → ⊥) → refused r ≡ after-check m b n x
   by-refused zero true zero x r p h = absurd (h p)
@@ -166,17 +166,17 @@ module _ (t : List ℕ) (l : Lent) (enough : Bool) (o p i : ℕ) where
   by-passed zero false n h = absurd (omega arith)
   by-passed (suc m) b n h = absurd (omega arith)
 
-  module _ (r : ℕ) (q : r ≡ standingNo t l enough o p i) where
-    by-number : r ≡ refusalOf (after-check (checkedNo t l enough) (isElement (tablesIn t) o p i) (freeNo t (groupOf o p) i) (given (tt {0})))
+  module _ (r : ℕ) (q : r ≡ elementNo t l enough o p i) where
+    by-number : r ≡ refusalOf (after-check (checkedNo t l enough) (isElement (tablesIn t) o p i) (writableNo t (groupOf o p) i) (given (tt {0})))
     by-number = q ∙ ap (λ (y : Answer (Unit {0})). refusalOf y) (standing-by (given (tt {0})))
 
-    pub standing-refused : {A : Type 0} (x : Answer A) → (r ≡ 0 → ⊥) → refused r ≡ standing t l enough o p i x
-    standing-refused x h = by-refused (checkedNo t l enough) (isElement (tablesIn t) o p i) (freeNo t (groupOf o p) i) x r by-number h ∙ sym (standing-by x)
+    pub standing-refused : {A : Type 0} (x : Answer A) → (r ≡ 0 → ⊥) → refused r ≡ judgedElement t l enough o p i x
+    standing-refused x h = by-refused (checkedNo t l enough) (isElement (tablesIn t) o p i) (writableNo t (groupOf o p) i) x r by-number h ∙ sym (standing-by x)
 
     pub stands-so : r ≡ 0 → Stands t l enough o p i
     stands-so h =
-        let b = by-passed (checkedNo t l enough) (isElement (tablesIn t) o p i) (freeNo t (groupOf o p) i) (sym by-number ∙ h) in
+        let b = by-passed (checkedNo t l enough) (isElement (tablesIn t) o p i) (writableNo t (groupOf o p) i) (sym by-number ∙ h) in
         record { checks = b .0; element = b .1; frees = b .2 }
 
-    pub standing-passed : {A : Type 0} (x : Answer A) → r ≡ 0 → standing t l enough o p i x ≡ x
+    pub standing-passed : {A : Type 0} (x : Answer A) → r ≡ 0 → judgedElement t l enough o p i x ≡ x
     standing-passed x h = let s = stands-so h in standing-by x ∙ rw (s .checks, s .element, s .frees)

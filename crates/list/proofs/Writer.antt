@@ -19,7 +19,7 @@ use Rattle.convert.specs.Told.{held}
 use Rattle.tables.specs.Form.{tablesIn, kind, first, mask}
 use Rattle.tables.specs.Group.{sumBelow, elements, bytes, placeOf}
 use Rattle.look.specs.declared.element.Line.{Line}
-use Rattle.look.specs.Element.{means, rawOf, lineWith, lineOf, shares, touched}
+use Rattle.look.specs.Element.{means, rawIn, lineWith, lineOf, shares, touched}
 use Rattle.look.specs.Calls.{Kept, room, groups, remade, refreshed, lineAt, withImage}
 use Rattle.list.proofs.LineLaws.{fresh-made, fresh-else, fresh-past, length-fresh}
 use Rattle.list.proofs.RefreshLaws.{refreshed-all}
@@ -53,7 +53,7 @@ picked-remade s t I J h k = λ v. record {
 module _ (t I J : List ℕ) (lo hi : ℕ) (s : SameOutside I J lo hi) where
   -- an element that has none of the bytes has the line that it had
   pub line-alone : (g i : ℕ) → touched t lo hi g i ≡ false → lineOf t I g i ≡ lineOf t J g i
-  unfolding touched lineOf rawOf
+  unfolding touched lineOf rawIn
   line-alone g i e =
       let T = tablesIn t in
       let a = apart lo hi (placeOf T g i) (bytes T g) e in

@@ -20,15 +20,15 @@ use Rattle.cell.proofs.Shapes.{bytes-le}
 use Rattle.cell.proofs.Laws as cell-laws
 use Rattle.convert.specs.Asked.{askedRaw}
 use Rattle.convert.proofs.Laws.{asked-stores}
-use Rattle.tables.specs.Form.{object, group, Tables, tablesIn, kind, first, mask, walk, x, y, counter, methodOf, limit}
+use Rattle.tables.specs.Form.{objectSection, groupSection, Tables, tablesIn, kind, first, mask, walk, x, y, counter, methodOf, limit}
 use Rattle.tables.specs.Group.{sumBelow, elements, bytes, placeOf}
-use Rattle.tables.specs.Rule.{isType, noPart, pointsRule, counterRule, axisRule, valuesRule, limitsRule, bytesRule, roleRule, partRule, groupRule, keepsRule}
+use Rattle.tables.specs.Rule.{isType, isNoPart, pointsRule, counterRule, axisRule, valuesRule, limitsRule, bytesRule, roleRule, partRule, groupRule, keepsRule}
 use Rattle.tables.specs.Sizes.{sizesFit}
 use Rattle.tables.proofs.All.{left, right, three, five, six, all-at}
 use Rattle.tables.proofs.Reading.{rule-facts, groups-are}
-use Rattle.look.specs.Element.{rawOf, touched}
-use Rattle.look.specs.Calls.{Lent, lentBy, isElement, Kept, groups, hasRoom, remade, refreshed, After, afterwards, Wanted, rawNumber, physicalText, Request, groupIn, asksBy, isTabVerb, wantedRaw, judged, stored, writtenTo, writing, lineAt, withImage}
-use Rattle.look.specs.Steps.{standingNo}
+use Rattle.look.specs.Element.{rawIn, touched}
+use Rattle.look.specs.Calls.{Lent, lentBy, isElement, Kept, groups, hasRoom, remade, refreshed, After, afterwards, Wanted, rawNumber, physicalText, Request, groupIn, asksBy, isTabVerb, wantedRaw, judgedRequest, stored, writtenTo, writing, lineAt, withImage}
+use Rattle.look.specs.Steps.{elementNo}
 use Rattle.look.proofs.CheckLaws.{checked-tests, named}
 use Rattle.list.proofs.StandLaws.{Stands, standing-refused, standing-passed, stands-so}
 use Rattle.list.proofs.Writer.{SameOutside, writer-remade, line-kept, rest-kept, Anew, writer-anew}
@@ -68,7 +68,7 @@ module _ (T : Tables) (g m : ℕ) where
       let a = (eqb (walk T g) 0 || eqb (walk T g) 2) in
       let b = (eqb (mask T g) 0 || maskRule (shapeOf (kind T g)) (mask T g)) in
       let c = eqb (counter T g) 0 in
-      or-cases (eqb (mask T g) 0) (maskRule (shapeOf (kind T g)) (mask T g)) (three a b c (left (a && b && c) (eqb (T .slots group g 18) 0) h) .1)
+      or-cases (eqb (mask T g) 0) (maskRule (shapeOf (kind T g)) (mask T g)) (three a b c (left (a && b && c) (eqb (T .slots groupSection g 18) 0) h) .1)
       (λ e. by-zero (eqb-true (mask T g) 0 e)) by-rule
 
   by-axis : axisRule T g m ≡ true → Within
@@ -86,18 +86,18 @@ module _ (T : Tables) (g m : ℕ) where
   by-part : partRule T g m ≡ true → Within
   unfolding partRule
   by-part h =
-      let u = three (isType (kind T g) && leb (T .slots group g 1) 1 && pointsRule T g && bytesRule T g m && roleRule T g m && leb (methodOf T g) (T .counts Rattle.tables.specs.Form.method)) (leb (T .slots group g 10) 1) (limitsRule T g) h in
-      by-role (six (isType (kind T g)) (leb (T .slots group g 1) 1) (pointsRule T g) (bytesRule T g m) (roleRule T g m) (leb (methodOf T g) (T .counts Rattle.tables.specs.Form.method)) (u .0) .4)
+      let u = three (isType (kind T g) && leb (T .slots groupSection g 1) 1 && pointsRule T g && bytesRule T g m && roleRule T g m && leb (methodOf T g) (T .counts Rattle.tables.specs.Form.method)) (leb (T .slots groupSection g 10) 1) (limitsRule T g) h in
+      by-role (six (isType (kind T g)) (leb (T .slots groupSection g 1) 1) (pointsRule T g) (bytesRule T g m) (roleRule T g m) (leb (methodOf T g) (T .counts Rattle.tables.specs.Form.method)) (u .0) .4)
 
-  by-none : noPart T g ≡ true → Within
-  unfolding noPart
-  by-none h = by-zero (eqb-true (T .slots group g 9) 0 (all-at 19 (λ k. eqb (T .slots group g k) 0) h 9 (omega arith)))
+  by-none : isNoPart T g ≡ true → Within
+  unfolding isNoPart
+  by-none h = by-zero (eqb-true (T .slots groupSection g 9) 0 (all-at 19 (λ k. eqb (T .slots groupSection g k) 0) h 9 (omega arith)))
 
   by-group : groupRule T g m ≡ true → Within
   unfolding groupRule
   by-group = go (eqb (kind T g) 0)
     where
-      go : (b : Bool) → cond b (noPart T g) (partRule T g m) ≡ true → Within
+      go : (b : Bool) → cond b (isNoPart T g) (partRule T g m) ≡ true → Within
       go true h = by-none h
       go false h = by-part h
 
@@ -114,9 +114,9 @@ pub record Accepted (t : List ℕ) (l : Lent) (enough : Bool) (q : Request) (z :
   pub index-below : q .index < elements (tablesIn t) (groupIn q)
   pub wants : wantedRaw (tablesIn t) (groupIn q) (q .wanted) ≡ given z
 
-pub accepted : (t : List ℕ) (l : Lent) (enough : Bool) (q : Request) (z : ℤ) → judged t l enough q ≡ given z → Accepted t l enough q z
-unfolding judged
-accepted t l enough q z h = go (standingNo t l enough (q .object) (q .part) (q .index)) refl
+pub accepted : (t : List ℕ) (l : Lent) (enough : Bool) (q : Request) (z : ℤ) → judgedRequest t l enough q ≡ given z → Accepted t l enough q z
+unfolding judgedRequest
+accepted t l enough q z h = go (elementNo t l enough (q .object) (q .part) (q .index)) refl
   where
     by-stands : Stands t l enough (q .object) (q .part) (q .index) → wantedRaw (tablesIn t) (groupIn q) (q .wanted) ≡ given z → Accepted t l enough q z
     by-stands s w =
@@ -133,7 +133,7 @@ accepted t l enough q z h = go (standingNo t l enough (q .object) (q .part) (q .
           wants = w;
         }
 
-    go : (r : ℕ) → standingNo t l enough (q .object) (q .part) (q .index) ≡ r → Accepted t l enough q z
+    go : (r : ℕ) → elementNo t l enough (q .object) (q .part) (q .index) ≡ r → Accepted t l enough q z
     go zero e =
         by-stands (stands-so t l enough (q .object) (q .part) (q .index) 0 (sym e) refl)
         (sym (standing-passed t l enough (q .object) (q .part) (q .index) 0 (sym e) (wantedRaw (tablesIn t) (groupIn q) (q .wanted)) refl) ∙ h)
@@ -165,17 +165,17 @@ wanted-raw T g y z = go (fitsRaw (shapeOf (kind T g)) (mask T g) y)
 
 -- ---- a write is refused or carried out
 pub by-answer : (t : List ℕ) (n base : ℕ) (k : Kept) (q : Request) (P : After → Type 0)
-    → ((c : ℕ) → judged t (lentBy n base k) (hasRoom t k) q ≡ refused c → P (record { answer = refused c; left = k }))
-    → ((z : ℤ) → judged t (lentBy n base k) (hasRoom t k) q ≡ given z → P (record { answer = given (tt {0}); left = writtenTo t (groupIn q) (q .index) k z }))
+    → ((c : ℕ) → judgedRequest t (lentBy n base k) (hasRoom t k) q ≡ refused c → P (record { answer = refused c; left = k }))
+    → ((z : ℤ) → judgedRequest t (lentBy n base k) (hasRoom t k) q ≡ given z → P (record { answer = given (tt {0}); left = writtenTo t (groupIn q) (q .index) k z }))
     → P (writing t n base k q)
 unfolding writing
-by-answer t n base k q P f g = go (judged t (lentBy n base k) (hasRoom t k) q) refl
+by-answer t n base k q P f g = go (judgedRequest t (lentBy n base k) (hasRoom t k) q) refl
   where
-    go : (a : Answer ℤ) → judged t (lentBy n base k) (hasRoom t k) q ≡ a → P (afterwards a k (writtenTo t (groupIn q) (q .index) k))
+    go : (a : Answer ℤ) → judgedRequest t (lentBy n base k) (hasRoom t k) q ≡ a → P (afterwards a k (writtenTo t (groupIn q) (q .index) k))
     go (given z) e = g z e
     go (refused c) e = f c e
 
-pub refused-answer : (t : List ℕ) (n base : ℕ) (k : Kept) (q : Request) (c : ℕ) → judged t (lentBy n base k) (hasRoom t k) q ≡ refused c → writing t n base k q .answer ≡ refused c
+pub refused-answer : (t : List ℕ) (n base : ℕ) (k : Kept) (q : Request) (c : ℕ) → judgedRequest t (lentBy n base k) (hasRoom t k) q ≡ refused c → writing t n base k q .answer ≡ refused c
 refused-answer t n base k q c h =
     by-answer t n base k q (λ (a : After). a .answer ≡ refused c) (λ d e. ap (λ (m : ℕ). refused m) (sym (same-refused c d (sym h ∙ e)))) (λ z e. absurd (never c z (sym h ∙ e)))
 
@@ -202,8 +202,8 @@ module _ (t : List ℕ) (g i : ℕ) where
     unfolding stored
     bits-stored h = cell-laws.bits-kept (first (tablesIn t) g) low (shapeOf (kind (tablesIn t) g)) (mask (tablesIn t) g) z image (bytes-le (kind (tablesIn t) g)) within b h
 
-    pub raw-stored : fitsRaw (shapeOf (kind (tablesIn t) g)) (mask (tablesIn t) g) z ≡ true → high ≤ length image → rawOf t (stored t g i image z) g i ≡ z
-    unfolding stored rawOf
+    pub raw-stored : fitsRaw (shapeOf (kind (tablesIn t) g)) (mask (tablesIn t) g) z ≡ true → high ≤ length image → rawIn t (stored t g i image z) g i ≡ z
+    unfolding stored rawIn
     raw-stored f l = cell-laws.read-back (first (tablesIn t) g) low (shapeOf (kind (tablesIn t) g)) (mask (tablesIn t) g) z image (bytes-le (kind (tablesIn t) g)) within b f l
 
   pub image-after : (k : Kept) (z : ℤ) → writtenTo t g i k z .image ≡ stored t g i (k .image) z

@@ -15,7 +15,7 @@ use tables::group::place_of;
 ghost use mathlib.Core.Path.{_≡_};
 ghost use Prim.Native.Nat.{_+_};
 ghost use Rattle.look.specs.Calls.{lentOf, isCounted, onCount};
-ghost use Rattle.look.specs.Steps.{freeNo, standingNo};
+ghost use Rattle.look.specs.Steps.{writableNo, elementNo};
 
 // Refusals: writing forbidden, the element shares a byte with a stored count.
 pub const FORBIDDEN: u8 = 21;
@@ -50,7 +50,7 @@ pub fn is_on_count(t: &[u64], lo: u64, many: u64) -> bool
 
 // Whether an element may be written at all: 21, 19, or 0 for neither.
 pub fn judge_element(t: &[u64], g: u16, i: u32) -> u8
-    ensures { λ r. ⌜ r ≡ freeNo (now (t .entry)) g i ⌝ }
+    ensures { λ r. ⌜ r ≡ writableNo (now (t .entry)) g i ⌝ }
 {
     if is_forbidden(t, g) {
         return FORBIDDEN;
@@ -72,7 +72,7 @@ pub fn judge(
     part: u8,
     index: u32,
 ) -> u8
-    ensures { λ r. ⌜ r ≡ standingNo (now (t .entry)) (lentOf n m base) enough object part index ⌝ }
+    ensures { λ r. ⌜ r ≡ elementNo (now (t .entry)) (lentOf n m base) enough object part index ⌝ }
 {
     let no = check(n, m, base, t, enough);
     if no != 0 {

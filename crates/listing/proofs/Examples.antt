@@ -7,18 +7,18 @@ use lib.ListN.{replicate}
 use Rattle.number.specs.Answer.{given, refused}
 use Rattle.records.specs.Cells.{countIn}
 use Rattle.text.specs.Bytes.{spelt}
-use Rattle.tables.specs.Form.{sections, group, tablesIn}
+use Rattle.tables.specs.Form.{tableSections, groupSection, tablesIn}
 use Rattle.print.specs.Print.{figuresOf}
 use Rattle.listing.specs.Print.{physical, line, header}
 use Rattle.listing.specs.Listing.{Columns, columns, printedPart, printedBelow, printed, ifFits}
 
 -- an empty list prints the header alone
-pub empty-prints-header : (x t : List ℕ) (c : Columns) → tablesIn t .counts group ≡ 0 → printed x t c ≡ header
+pub empty-prints-header : (x t : List ℕ) (c : Columns) → tablesIn t .counts groupSection ≡ 0 → printed x t c ≡ header
 unfolding printed printedBelow header
 empty-prints-header x t c e = rw e
 
 nothing-kept : printed [] [] (columns [] [] [] []) ≡ spelt "name\tpart\tindex\traw\tphysical\n"
-unfolding printed printedBelow printedPart header countIn sections
+unfolding printed printedBelow printedPart header countIn tableSections
 nothing-kept = refl
 
 -- document 01's two lines; a text stands as in the description, quotes included

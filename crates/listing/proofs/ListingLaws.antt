@@ -19,7 +19,7 @@ use lib.Seq.{sets-eq}
 use Rattle.number.specs.Answer.{Answer, refused}
 use Rattle.records.specs.Cells.{sectionIn, slotIn}
 use Rattle.records.specs.Cells as cells
-use Rattle.tables.specs.Form.{sections, object, group, tablesIn, total}
+use Rattle.tables.specs.Form.{tableSections, objectSection, groupSection, tablesIn, total}
 use Rattle.tables.specs.Group.{groupOf, elements, sumBelow, lineOf}
 use Rattle.tables.specs.Rule.{keepsRule}
 use Rattle.tables.specs.Sizes.{sizesFit}
@@ -36,7 +36,7 @@ use Rattle.print.proofs.PutLaws.{put-none, put-then, length-put}
 use Rattle.listing.specs.declared.listing.ListingAnswer.{ListingAnswer}
 use Rattle.listing.specs.declared.listing.ListingAnswer.the-variants.{Written, Refused}
 use Rattle.listing.specs.Print.{physical, line, header}
-use Rattle.listing.specs.Listing.{Columns, columns, columnsOf, keptNo, printing, lineAt, printedPart, printedBelow, printed, laid, listedBy, listedOf, ifFits, listing}
+use Rattle.listing.specs.Listing.{Columns, columns, columnsOf, keptNo, printing, printedLine, printedPart, printedBelow, printed, laid, listedBy, listedOf, ifFits, listing}
 
 -- ---- columns
 
@@ -70,12 +70,12 @@ module _ (f : ℕ → ℕ) where
 -- ---- one element
 
 module _ (x t : List ℕ) (raw : List ℤ) (state : List ℕ) (first second : List ℤ) where
-  pub element-put : (g i k o a e p s : ℕ) (z n d y u v : ℤ) {at r : ℕ} {out left : List ℕ} → o ≡ g / 3 → a ≡ slotIn t (sectionIn sections object) o 0 → e ≡ slotIn t (sectionIn sections object) o 1 → p ≡ g % 3
+  pub element-put : (g i k o a e p s : ℕ) (z n d y u v : ℤ) {at r : ℕ} {out left : List ℕ} → o ≡ g / 3 → a ≡ slotIn t (sectionIn tableSections objectSection) o 0 → e ≡ slotIn t (sectionIn tableSections objectSection) o 1 → p ≡ g % 3
       → z ≡ getD raw k (pos 0) → s ≡ getD state k 0 → n ≡ getD first k (pos 0) → d ≡ getD second k (pos 0)
       → y ≡ z → u ≡ n → v ≡ d
       → Put at (line x (slice x a e) p i y (physical x s u v)) out r left
-      → Put at (lineAt x t (columns raw state first second) g i k) out r left
-  unfolding lineAt
+      → Put at (printedLine x t (columns raw state first second) g i k) out r left
+  unfolding printedLine
   element-put g i k o a e p s z n d y u v h1 h2 h3 h4 h5 h6 h7 h8 h9 h10 h11 q =
       rw (h9 ∙ h5, h10 ∙ h7, h11 ∙ h8, h6, h4, h2, h3, h1) at q
 
@@ -100,7 +100,7 @@ module _ (x t : List ℕ) (c : Columns) where
 
     module _ {g i k p : ℕ} {now : List ℕ} where
       pub upto-line : (e r : ℕ) (left : List ℕ) → g < n → e ≡ elements (tablesIn t) g → i < e → Upto at n out g i k p now
-          → Put p (lineAt x t c g i k) now r left → r ≤ p + 2 ^ 26 → Upto at n out g (i + 1) (k + 1) r left
+          → Put p (printedLine x t c g i k) now r left → r ≤ p + 2 ^ 26 → Upto at n out g (i + 1) (k + 1) r left
       unfolding printedPart
       upto-line e r left h q l u w b = let y = u .lines in let m = u .most in record {
         below = u .below;
@@ -148,7 +148,7 @@ pub ruleset uptos = (upto-start, upto-line, upto-next, upto-done, upto-room, upt
 
 -- ---- the whole
 
-pub printed-put : (x t : List ℕ) (c : Columns) {at e r : ℕ} {out o left : List ℕ} → Put at header out e o → Put e (printedBelow x t c (tablesIn t .counts group)) o r left → Put at (printed x t c) out r left
+pub printed-put : (x t : List ℕ) (c : Columns) {at e r : ℕ} {out o left : List ℕ} → Put at header out e o → Put e (printedBelow x t c (tablesIn t .counts groupSection)) o r left → Put at (printed x t c) out r left
 unfolding printed
 printed-put x t c p q = put-then p q
 
@@ -208,10 +208,10 @@ module _ (x t : List ℕ) (base : ℕ) (k : Kept) (n : ℕ) (e : n ≡ keptNo (l
         let a = leb (length x) (2 ^ 24) in
         let b = leb (length (k .image)) (2 ^ 20) in
         let c = leb (base + length (k .image)) (2 ^ 32) in
-        let d = leb (cells.room sections) (length t) in
+        let d = leb (cells.room tableSections) (length t) in
         leb-true _ _ (left a b (left (a && b) c (left (a && b && c) d (left (sizesFit (length x) (length (k .image)) base (length t)) (hasRoom t k) (kept-tests .0)))))
 
-    pub kept-lines : sumBelow (tablesIn t .counts group) (elements (tablesIn t)) ≤ 4096
+    pub kept-lines : sumBelow (tablesIn t .counts groupSection) (elements (tablesIn t)) ≤ 4096
     kept-lines =
         let a = total-is (length x) (length (k .image)) t (kept-tests .1) in
         let b = total-most (length x) (length (k .image)) t (kept-tests .1) in
@@ -235,18 +235,18 @@ module _ (x t : List ℕ) (base : ℕ) (k : Kept) (n : ℕ) (e : n ≡ keptNo (l
     module _ (o p i : ℕ) where
       pub line-refused : (n ≡ 0 → ⊥) → listedOf (Refused n) out ≡ printing x t base k o p i out
       unfolding printing
-      line-refused h = rw (← kept-refused (unless (isElement (tablesIn t) o p i) 14 (ifFits (lineAt x t (columnsOf k) (groupOf o p) i (lineOf (tablesIn t) (groupOf o p) i)) out)) h)
+      line-refused h = rw (← kept-refused (unless (isElement (tablesIn t) o p i) 14 (ifFits (printedLine x t (columnsOf k) (groupOf o p) i (lineOf (tablesIn t) (groupOf o p) i)) out)) h)
 
       module _ (b : Bool) (q : b ≡ isElement (tablesIn t) o p i) where
         pub line-none : n ≡ 0 → b ≡ false → listedOf (Refused 14) out ≡ printing x t base k o p i out
         unfolding printing
-        line-none z h = rw (kept-passed z (unless (isElement (tablesIn t) o p i) 14 (ifFits (lineAt x t (columnsOf k) (groupOf o p) i (lineOf (tablesIn t) (groupOf o p) i)) out)), ← q, h)
+        line-none z h = rw (kept-passed z (unless (isElement (tablesIn t) o p i) 14 (ifFits (printedLine x t (columnsOf k) (groupOf o p) i (lineOf (tablesIn t) (groupOf o p) i)) out)), ← q, h)
 
         pub line-is : (g s j : ℕ) (r : ListingAnswer) (left : List ℕ) → n ≡ 0 → b ≡ true → g ≡ min (groupOf o p) pastRecords → s ≡ sumBelow g (elements (tablesIn t)) → j ≡ s + i
-            → listedOf r left ≡ listedBy (ifFits (lineAt x t (columnsOf k) g i j) out) out → listedOf r left ≡ printing x t base k o p i out
+            → listedOf r left ≡ listedBy (ifFits (printedLine x t (columnsOf k) g i j) out) out → listedOf r left ≡ printing x t base k o p i out
         unfolding printing
         line-is g s j r left z h m u v w =
-            rw (kept-passed z (unless (isElement (tablesIn t) o p i) 14 (ifFits (lineAt x t (columnsOf k) (groupOf o p) i (lineOf (tablesIn t) (groupOf o p) i)) out)), ← q, h)
+            rw (kept-passed z (unless (isElement (tablesIn t) o p i) 14 (ifFits (printedLine x t (columnsOf k) (groupOf o p) i (lineOf (tablesIn t) (groupOf o p) i)) out)), ← q, h)
             (rw (v, u, group-is t o p i b g q h m) at w)
 
 pub ruleset listings = (kept-text, kept-lines, listing-refused, listing-short, listing-done, needs)

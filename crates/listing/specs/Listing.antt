@@ -6,7 +6,7 @@ use lib.Dec.{leb}
 use lib.IntN.{ℤ, pos}
 use lib.ListN.{length, getD, drop}
 use Rattle.number.specs.Answer.{Answer, given, refused}
-use Rattle.tables.specs.Form.{object, group, tablesIn}
+use Rattle.tables.specs.Form.{objectSection, groupSection, tablesIn}
 use Rattle.tables.specs.Group.{groupOf, elements, sumBelow, lineOf}
 use Rattle.look.specs.Calls.{Kept, checked, hasRoom, lentBy, unless, isElement}
 use Rattle.look.specs.Steps.{checkedNo}
@@ -31,17 +31,17 @@ columnsOf k = columns (k .raw) (k .state) (k .first) (k .second)
 module _ (x t : List ℕ) (k : Columns) where
   -- the name of group g's object
   abbrev pub nameOf : ℕ → List ℕ
-  nameOf g = slice x (tablesIn t .slots object (g / 3) 0) (tablesIn t .slots object (g / 3) 1)
+  nameOf g = slice x (tablesIn t .slots objectSection (g / 3) 0) (tablesIn t .slots objectSection (g / 3) 1)
 
   -- the printed line of element i of group g, which is line n of the list
-  unfoldable pub lineAt : ℕ → ℕ → ℕ → List ℕ
-  lineAt g i n =
+  unfoldable pub printedLine : ℕ → ℕ → ℕ → List ℕ
+  printedLine g i n =
       line x (nameOf g) (g % 3) i (getD (k .raw) n (pos 0)) (physical x (getD (k .state) n 0) (getD (k .first) n (pos 0)) (getD (k .second) n (pos 0)))
 
   -- the first so many lines of group g
   unfoldable pub printedPart : ℕ → ℕ → List ℕ
   printedPart g zero = []
-  printedPart g (suc i) = printedPart g i ++ lineAt g i (sumBelow g (elements (tablesIn t)) + i)
+  printedPart g (suc i) = printedPart g i ++ printedLine g i (sumBelow g (elements (tablesIn t)) + i)
 
   -- the lines of the groups below g
   unfoldable pub printedBelow : ℕ → List ℕ
@@ -49,7 +49,7 @@ module _ (x t : List ℕ) (k : Columns) where
   printedBelow (suc g) = printedBelow g ++ printedPart g (elements (tablesIn t) g)
 
   unfoldable pub printed : List ℕ
-  printed = header ++ printedBelow (tablesIn t .counts group)
+  printed = header ++ printedBelow (tablesIn t .counts groupSection)
 
 -- bytes laid over the front of a lent buffer
 abbrev pub laid : List ℕ → List ℕ → List ℕ
@@ -78,7 +78,7 @@ listing x t base k out = listedBy (checked t (lentBy (length x) base k) (hasRoom
 -- one element's line, by object number, part and index: "20, 22, 14", then 20 where the bytes do not fit
 unfoldable pub printing : List ℕ → List ℕ → ℕ → Kept → ℕ → ℕ → ℕ → List ℕ → Listed
 printing x t base k o p i out =
-    listedBy (checked t (lentBy (length x) base k) (hasRoom t k) (unless (isElement (tablesIn t) o p i) 14 (ifFits (lineAt x t (columnsOf k) (groupOf o p) i (lineOf (tablesIn t) (groupOf o p) i)) out))) out
+    listedBy (checked t (lentBy (length x) base k) (hasRoom t k) (unless (isElement (tablesIn t) o p i) 14 (ifFits (printedLine x t (columnsOf k) (groupOf o p) i (lineOf (tablesIn t) (groupOf o p) i)) out))) out
 
 -- what the code's answer says, with what the buffer holds
 abbrev pub listedOf : ListingAnswer → List ℕ → Listed

@@ -20,7 +20,7 @@ ghost use Rattle.tables.specs.Form.{tablesIn};
 ghost use Rattle.tables.specs.Group.{elements, sumBelow};
 ghost use Rattle.look.specs.Calls.{kept};
 ghost use Rattle.print.specs.Put.{Put};
-ghost use Rattle.listing.specs.Listing.{columns, keptNo, lineAt, listedBy, ifFits, listedOf, printing};
+ghost use Rattle.listing.specs.Listing.{columns, keptNo, printedLine, listedBy, ifFits, listedOf, printing};
 
 // The number at a line of a column, 0 past its end.
 fn number_at(column: &[i64], k: usize) -> i64
@@ -57,7 +57,7 @@ pub(crate) fn put_element(
     k: usize,
 ) -> usize
     requires { ⌜ (at < 2 ^ 55) × (length (now x) ≤ 2 ^ 24) ⌝ }
-    ensures { λ r. ⌜ Put at (lineAt (now (x .entry)) (now (t .entry)) (columns (now (raw .entry)) (now (state .entry)) (now (first .entry)) (now (second .entry))) g i k) (now (out .entry)) r (now (out .exit)) × (r ≤ at + 2 ^ 26) ⌝ }
+    ensures { λ r. ⌜ Put at (printedLine (now (x .entry)) (now (t .entry)) (columns (now (raw .entry)) (now (state .entry)) (now (first .entry)) (now (second .entry))) g i k) (now (out .entry)) r (now (out .exit)) × (r ≤ at + 2 ^ 26) ⌝ }
 {
     let object = g / PARTS;
     let a = slot_of(t, OBJECT, object, 0) as usize;
@@ -114,7 +114,7 @@ fn write_element(
     out: &mut [u8],
 ) -> ListingAnswer
     requires { ⌜ length (now x) ≤ 2 ^ 24 ⌝ }
-    ensures { λ r. ⌜ listedOf r (now (out .exit)) ≡ listedBy (ifFits (lineAt (now (x .entry)) (now (t .entry)) (columns (now (raw .entry)) (now (state .entry)) (now (first .entry)) (now (second .entry))) g i k) (now (out .entry))) (now (out .entry)) ⌝ }
+    ensures { λ r. ⌜ listedOf r (now (out .exit)) ≡ listedBy (ifFits (printedLine (now (x .entry)) (now (t .entry)) (columns (now (raw .entry)) (now (state .entry)) (now (first .entry)) (now (second .entry))) g i k) (now (out .entry))) (now (out .entry)) ⌝ }
 {
     let mut nothing = [0u8; 1];
     let need = put_element(&mut nothing, 0, x, t, raw, state, first, second, g, i, k);

@@ -9,7 +9,7 @@ use tables::group::elements_of;
 ghost use mathlib.Core.Path.{_≡_};
 ghost use Prim.Native.Nat.{_≤_, _^_};
 ghost use lib.ListN.{length};
-ghost use Rattle.tables.specs.Form.{group, tablesIn};
+ghost use Rattle.tables.specs.Form.{groupSection, tablesIn};
 ghost use Rattle.tables.specs.Group.{elements, sumBelow};
 ghost use Rattle.look.specs.Calls.{kept};
 ghost use Rattle.print.specs.Put.{Put};
@@ -36,8 +36,8 @@ fn put_elements(
     first: &[i64],
     second: &[i64],
 ) -> usize
-    requires { ⌜ (at ≤ 2 ^ 24) × (length (now x) ≤ 2 ^ 24) × (sumBelow (tablesIn (now t) .counts group) (elements (tablesIn (now t))) ≤ 4096) ⌝ }
-    ensures { λ r. ⌜ Put at (printedBelow (now (x .entry)) (now (t .entry)) (columns (now (raw .entry)) (now (state .entry)) (now (first .entry)) (now (second .entry))) (tablesIn (now (t .entry)) .counts group)) (now (out .entry)) r (now (out .exit)) ⌝ }
+    requires { ⌜ (at ≤ 2 ^ 24) × (length (now x) ≤ 2 ^ 24) × (sumBelow (tablesIn (now t) .counts groupSection) (elements (tablesIn (now t))) ≤ 4096) ⌝ }
+    ensures { λ r. ⌜ Put at (printedBelow (now (x .entry)) (now (t .entry)) (columns (now (raw .entry)) (now (state .entry)) (now (first .entry)) (now (second .entry))) (tablesIn (now (t .entry)) .counts groupSection)) (now (out .entry)) r (now (out .exit)) ⌝ }
 {
     let groups = count_of(t, GROUP);
     let mut g: u16 = 0;
@@ -74,7 +74,7 @@ fn put_listing(
     first: &[i64],
     second: &[i64],
 ) -> usize
-    requires { ⌜ (length (now x) ≤ 2 ^ 24) × (sumBelow (tablesIn (now t) .counts group) (elements (tablesIn (now t))) ≤ 4096) ⌝ }
+    requires { ⌜ (length (now x) ≤ 2 ^ 24) × (sumBelow (tablesIn (now t) .counts groupSection) (elements (tablesIn (now t))) ≤ 4096) ⌝ }
     ensures { λ r. ⌜ Put 0 (printed (now (x .entry)) (now (t .entry)) (columns (now (raw .entry)) (now (state .entry)) (now (first .entry)) (now (second .entry)))) (now (out .entry)) r (now (out .exit)) ⌝ }
 {
     let e = put_header(out);

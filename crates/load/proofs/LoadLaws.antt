@@ -31,7 +31,7 @@ use Rattle.objects.specs.Stage.{judgeAll, toldTurn}
 use Rattle.objects.specs.declared.stage.Turn.{Turn}
 use Rattle.objects.specs.declared.stage.Turn.the-variants as turn
 use Rattle.build.specs.Build.{built}
-use Rattle.tables.specs.Form.{sections}
+use Rattle.tables.specs.Form.{tableSections}
 use Rattle.tables.specs.Sizes.{sizesFit}
 use Rattle.load.specs.Load.{described, Loaded, left, loaded, loadedOf, judgedLast, judgedAll, filling, filled, filledOf}
 use Rattle.load.specs.declared.LoadAnswer.{LoadAnswer}
@@ -40,36 +40,36 @@ use Rattle.load.proofs.ReadLaws.{never, read-good, length-read}
 
 module _ (image : List ℕ) (base : ℕ) (x : List ℕ) (v : View) where
   -- c is what `convert_all` gave
-  module _ (c : Converted) (p : methods.told c ≡ converts v) where
+  module _ (c : Converted) (p : methods.toldMethods c ≡ converts v) where
     pub last-fine : (r : Turn) → c ≡ converted.Fine → toldTurn r ≡ judgeAll image base x v → toldTurn r ≡ judgedLast image base x v
     unfolding judgedLast
     last-fine r y q =
-        let e : given tt ≡ converts v = ap methods.told (sym y) ∙ p in
+        let e : given tt ≡ converts v = ap methods.toldMethods (sym y) ∙ p in
         q ∙ ap (λ (a : Answer (Unit {0})). with a (λ _. judgeAll image base x v)) e
 
     pub last-refused : (n m : ℕ) → c ≡ converted.Refused n m → refused n m ≡ judgedLast image base x v
     unfolding judgedLast
     last-refused n m y =
-        let e : refused n m ≡ converts v = ap methods.told (sym y) ∙ p in
+        let e : refused n m ≡ converts v = ap methods.toldMethods (sym y) ∙ p in
         ap (λ (a : Answer (Unit {0})). with a (λ _. judgeAll image base x v)) e
 
   -- f is what `refer_all` gave
-  module _ (f : Reference) (p : refers.told f ≡ referred x v) where
+  module _ (f : Reference) (p : refers.toldReference f ≡ referred x v) where
     pub all-fine : (r : Turn) → f ≡ reference.Fine → toldTurn r ≡ judgedLast image base x v → toldTurn r ≡ judgedAll image base x v
     unfolding judgedAll
     all-fine r y q =
-        let e : given tt ≡ referred x v = ap refers.told (sym y) ∙ p in
+        let e : given tt ≡ referred x v = ap refers.toldReference (sym y) ∙ p in
         q ∙ ap (λ (a : Answer (Unit {0})). with a (λ _. judgedLast image base x v)) e
 
     pub all-refused : (n m : ℕ) → f ≡ reference.Refused n m → refused n m ≡ judgedAll image base x v
     unfolding judgedAll
     all-refused n m y =
-        let e : refused n m ≡ referred x v = ap refers.told (sym y) ∙ p in
+        let e : refused n m ≡ referred x v = ap refers.toldReference (sym y) ∙ p in
         ap (λ (a : Answer (Unit {0})). with a (λ _. judgedLast image base x v)) e
 
   -- r is what `judge_records` gave, and t the tables
   module _ (r : Turn) (p : toldTurn r ≡ judgedAll image base x v) (t : List ℕ) where
-    pub fill-accepted : (n : ℕ) (w : List ℕ) → r ≡ turn.Total n → w ≡ encode sections (length t) (built image base x v n) → accepted w ≡ filled (length t) (filling image base x v)
+    pub fill-accepted : (n : ℕ) (w : List ℕ) → r ≡ turn.Total n → w ≡ encode tableSections (length t) (built image base x v n) → accepted w ≡ filled (length t) (filling image base x v)
     unfolding filling
     fill-accepted n w y q =
         let e : given n ≡ judgedAll image base x v = ap toldTurn (sym y) ∙ p in
@@ -115,7 +115,7 @@ into-is x w h = rw (le-ltb (length w) (room records.sections) h)
 -- what the tables hold, and work that was cleared
 with-work : (n k : ℕ) (a : LoadAnswer) (t : List ℕ) (r : Answer (List (List (List ℕ)))) → filledOf a t ≡ filled n r → loadedOf a t (replicate k 0) ≡ left n k r
 with-work n k a t (given d) p = by-answer a p where
-  by-answer : (a : LoadAnswer) → filledOf a t ≡ accepted (encode sections n d) → loadedOf a t (replicate k 0) ≡ record { answer = given tt; tables = encode sections n d; work = replicate k 0 }
+  by-answer : (a : LoadAnswer) → filledOf a t ≡ accepted (encode tableSections n d) → loadedOf a t (replicate k 0) ≡ record { answer = given tt; tables = encode tableSections n d; work = replicate k 0 }
   by-answer variant.Accepted q = ap (λ (o : Out). record { answer = o .answer; tables = o .cells; work = replicate k 0 }) q
   by-answer (variant.Refused i j) q = ap (λ (o : Out). record { answer = o .answer; tables = o .cells; work = replicate k 0 }) q
 with-work n k a t (refused i j) p = by-answer a p where
@@ -157,7 +157,7 @@ cleared-long t t₁ z = ap length z ∙ length-replicate (length t) 0
 pub cleared-zeros : (t t₁ : List ℕ) → t₁ ≡ replicate (length t) 0 → t₁ ≡ replicate (length t₁) 0
 cleared-zeros t t₁ z = z ∙ ap (λ (n : ℕ). replicate n 0) (sym (cleared-long t t₁ z))
 
-pub cleared-room : (t t₁ : List ℕ) → t₁ ≡ replicate (length t) 0 → room sections ≤ length t → room sections ≤ length t₁
+pub cleared-room : (t t₁ : List ℕ) → t₁ ≡ replicate (length t) 0 → room tableSections ≤ length t → room tableSections ≤ length t₁
 cleared-room t t₁ z h = rw (cleared-long t t₁ z) h
 
 pub ruleset intos = (into-accepted, into-refused, cleared-zeros, cleared-room, needs)
@@ -172,11 +172,11 @@ and-right : (a b : Bool) → (a && b) ≡ true → b ≡ true
 and-right true b e = e
 and-right false b e = absurd (let z : _≡_ {A = ℕ} 0 1 = cc in omega arith)
 
-sizes-room : (n m base cells : ℕ) → sizesFit n m base cells ≡ true → room sections ≤ cells
+sizes-room : (n m base cells : ℕ) → sizesFit n m base cells ≡ true → room tableSections ≤ cells
 unfolding sizesFit
 sizes-room n m base cells h =
-    leb-true (room sections) cells
-    (and-right (leb n (2 ^ 24) && leb m (2 ^ 20) && leb (base + m) (2 ^ 32)) (leb (room sections) cells) h)
+    leb-true (room tableSections) cells
+    (and-right (leb n (2 ^ 24) && leb m (2 ^ 20) && leb (base + m) (2 ^ 32)) (leb (room tableSections) cells) h)
 
 pub work-room : room records.sections ≡ 42578
 unfolding records.sections
@@ -184,7 +184,7 @@ work-room = refl
 
 -- f is what `sizes_fit` gave
 module _ (x image t w : List ℕ) (base : ℕ) (f : Bool) (p : f ≡ sizesFit (length x) (length image) base (length t)) where
-  pub tables-fit : (f && leb 42578 (length w)) ≡ true → room sections ≤ length t
+  pub tables-fit : (f && leb 42578 (length w)) ≡ true → room tableSections ≤ length t
   tables-fit h = sizes-room (length x) (length image) base (length t) (sym p ∙ and-left f (leb 42578 (length w)) h)
 
   pub work-fits : (f && leb 42578 (length w)) ≡ true → room records.sections ≤ length w

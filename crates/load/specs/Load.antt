@@ -14,7 +14,7 @@ use Rattle.refer.specs.Refer.{referred}
 use Rattle.methods.specs.Methods.{converts}
 use Rattle.objects.specs.Stage.{judgeAll}
 use Rattle.build.specs.Build.{built}
-use Rattle.tables.specs.Form.{sections}
+use Rattle.tables.specs.Form.{tableSections}
 use Rattle.tables.specs.Sizes.{sizesFit}
 use Rattle.load.specs.declared.LoadAnswer.{LoadAnswer}
 use Rattle.load.specs.declared.LoadAnswer.the-variants as variant
@@ -37,7 +37,7 @@ pub record Loaded : Type 0 where
 
 -- "20 leaves tables untouched, other load refusals leave them zero"
 abbrev pub left : ℕ → ℕ → Answer (List (List (List ℕ))) → Loaded
-left n w (given d) = record { answer = given tt; tables = encode sections n d; work = replicate w 0 }
+left n w (given d) = record { answer = given tt; tables = encode tableSections n d; work = replicate w 0 }
 left n w (refused k p) = record { answer = refused k p; tables = replicate n 0; work = replicate w 0 }
 
 unfoldable pub loaded : List ℕ → List ℕ → ℕ → List ℕ → List ℕ → Loaded
@@ -66,7 +66,7 @@ unfoldable pub filling : List ℕ → ℕ → List ℕ → View → Answer (List
 filling image base x v = with (judgedAll image base x v) (λ elements. given (built image base x v elements))
 
 abbrev pub filled : ℕ → Answer (List (List (List ℕ))) → Out
-filled n (given d) = accepted (encode sections n d)
+filled n (given d) = accepted (encode tableSections n d)
 filled n (refused k p) = refusing k p (replicate n 0)
 
 abbrev pub filledOf : LoadAnswer → List ℕ → Out

@@ -17,7 +17,7 @@ ghost use Rattle.records.specs.Cells.{room};
 ghost use Rattle.rows.specs.Sections as records;
 ghost use Rattle.grammar.specs.Move.{viewIn};
 ghost use Rattle.objects.specs.Stage.{toldTurn};
-ghost use Rattle.tables.specs.Form.{sections};
+ghost use Rattle.tables.specs.Form.{tableSections};
 ghost use Rattle.load.specs.Load.{judgedLast, judgedAll, filling, filled, filledOf, described, left, loaded, loadedOf};
 
 // What a load answers: the tables are filled, or the first refusal's number and place.
@@ -51,7 +51,7 @@ fn judge_records(image: &[u8], base: u32, x: &[u8], t: &[u64]) -> Turn
 
 // The records judged, and the tables, which are zeros, filled where all is well.
 fn fill(x: &[u8], image: &[u8], base: u32, tables: &mut [u64], t: &[u64]) -> LoadAnswer
-    requires { ⌜ (now tables ≡ replicate (length (now tables)) 0) × (room sections ≤ length (now tables)) ⌝ }
+    requires { ⌜ (now tables ≡ replicate (length (now tables)) 0) × (room tableSections ≤ length (now tables)) ⌝ }
     ensures { λ r. ⌜ filledOf r (now (tables .exit)) ≡ filled (length (now (tables .entry))) (filling (now (image .entry)) base (now (x .entry)) (viewIn (now (t .entry)))) ⌝ }
 {
     match judge_records(image, base, x, t) {
@@ -65,7 +65,7 @@ fn fill(x: &[u8], image: &[u8], base: u32, tables: &mut [u64], t: &[u64]) -> Loa
 
 // A load into buffers that are long enough.
 fn load_into(x: &[u8], image: &[u8], base: u32, tables: &mut [u64], work: &mut [u64]) -> LoadAnswer
-    requires { ⌜ (room sections ≤ length (now tables)) × (room records.sections ≤ length (now work)) ⌝ }
+    requires { ⌜ (room tableSections ≤ length (now tables)) × (room records.sections ≤ length (now work)) ⌝ }
     ensures { λ r. ⌜ loadedOf r (now (tables .exit)) (now (work .exit)) ≡ left (length (now (tables .entry))) (length (now (work .entry))) (described (now (image .entry)) base (now (x .entry))) ⌝ }
 {
     records::clear(tables);

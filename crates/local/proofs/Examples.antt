@@ -10,7 +10,7 @@ use Rattle.text.specs.Bytes.{spelt, isBlank, isAllowed, isLetter, isDigit, star
 use Rattle.text.specs.Blank.{lineEnd, commentEnd, blankAt, tokenEnds}
 use Rattle.text.specs.Token.{nameEnd, nameAt, tokenAt, nextToken}
 use Rattle.words.specs.Row.{word, bytes, same, kindIn}
-use Rattle.words.specs.Table.{rows}
+use Rattle.words.specs.Table.{wordRows}
 use Rattle.words.specs.Class.{classOf, classAt}
 use Rattle.grammar.specs.Keyword.{item}
 use Rattle.grammar.specs.Read.{onPiece, move, readFrom, start, read}
@@ -23,11 +23,11 @@ abbrev joined : List ℕ
 joined = spelt "A/x"
 
 named-refused : read named ≡ refused 4 0
-unfolding walk over isBlank isAllowed isLetter isDigit startsName inName startsNumber pairAt lineEnd commentEnd blankAt tokenEnds nameEnd nameAt tokenAt nextToken word bytes same kindIn rows classOf classAt item onPiece move readFrom start read
+unfolding walk over isBlank isAllowed isLetter isDigit startsName inName startsNumber pairAt lineEnd commentEnd blankAt tokenEnds nameEnd nameAt tokenAt nextToken word bytes same kindIn wordRows classOf classAt item onPiece move readFrom start read
 named-refused = refl
 
 joined-refused : read joined ≡ refused 1 0
-unfolding walk over isBlank isAllowed isLetter isDigit startsName inName startsNumber pairAt lineEnd commentEnd blankAt tokenEnds nameEnd nameAt tokenAt nextToken word bytes same kindIn rows classOf classAt item onPiece move readFrom start read
+unfolding walk over isBlank isAllowed isLetter isDigit startsName inName startsNumber pairAt lineEnd commentEnd blankAt tokenEnds nameEnd nameAt tokenAt nextToken word bytes same kindIn wordRows classOf classAt item onPiece move readFrom start read
 joined-refused = refl
 
 -- the token `A`

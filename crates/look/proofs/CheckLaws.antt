@@ -17,11 +17,11 @@ use Rattle.convert.specs.declared.fraction.Physical.{Physical}
 use Rattle.convert.specs.declared.fraction.Shown.{Shown}
 use Rattle.convert.proofs.Showns.{meant-held}
 use Rattle.records.specs.Cells.{countIn}
-use Rattle.tables.specs.Form.{sections, object, tablesIn}
+use Rattle.tables.specs.Form.{tableSections, objectSection, tablesIn}
 use Rattle.tables.specs.Group.{groupOf, elements}
 use Rattle.tables.specs.Rule.{keepsRule}
 use Rattle.tables.specs.Sizes.{sizesFit}
-use Rattle.look.specs.Element.{pastRecords, means, rawOf}
+use Rattle.look.specs.Element.{pastRecords, means, rawIn}
 use Rattle.look.specs.Calls.{Lent, lentOf, checked, isElement, readingOf, reading}
 use Rattle.look.specs.Steps.{refusalOf, checkedNo}
 use Rattle.look.specs.Told.{toldRead}
@@ -70,39 +70,39 @@ module _ (t : List ℕ) (l : Lent) (enough : Bool) (r : ℕ) (p : r ≡ checkedN
   checked-passed x h = let b = checked-tests h in (unfold checked in rw (b .0, b .1))
 
 -- ---- 14
-few-objects : (t : List ℕ) → tablesIn t .counts object ≤ 512
-unfolding countIn sections
+few-objects : (t : List ℕ) → tablesIn t .counts objectSection ≤ 512
+unfolding countIn tableSections
 few-objects t = omega arith
 
 module _ (t : List ℕ) (o p i : ℕ) where
-  pub no-object : (n : ℕ) → n ≡ tablesIn t .counts object → n ≤ o → false ≡ isElement (tablesIn t) o p i
+  pub no-object : (n : ℕ) → n ≡ tablesIn t .counts objectSection → n ≤ o → false ≡ isElement (tablesIn t) o p i
   unfolding isElement
-  no-object n e h = rw (le-ltb o (tablesIn t .counts object) (rw e at h))
+  no-object n e h = rw (le-ltb o (tablesIn t .counts objectSection) (rw e at h))
 
-  pub no-part : (n : ℕ) → n ≡ tablesIn t .counts object → o < n → 3 ≤ p → false ≡ isElement (tablesIn t) o p i
+  pub no-part : (n : ℕ) → n ≡ tablesIn t .counts objectSection → o < n → 3 ≤ p → false ≡ isElement (tablesIn t) o p i
   unfolding isElement
-  no-part n e h k = rw (lt-ltb o (tablesIn t .counts object) (rw e at h), le-ltb p 3 k)
+  no-part n e h k = rw (lt-ltb o (tablesIn t .counts objectSection) (rw e at h), le-ltb p 3 k)
 
-  near-group : (g : ℕ) → o < tablesIn t .counts object → p < 3 → g ≡ min (groupOf o p) pastRecords → g ≡ groupOf o p
+  near-group : (g : ℕ) → o < tablesIn t .counts objectSection → p < 3 → g ≡ min (groupOf o p) pastRecords → g ≡ groupOf o p
   near-group g h k e = let f = few-objects t in omega arith
 
-  pub by-index : (n g c : ℕ) → n ≡ tablesIn t .counts object → o < n → p < 3 → g ≡ min (groupOf o p) pastRecords → c ≡ elements (tablesIn t) g
+  pub by-index : (n g c : ℕ) → n ≡ tablesIn t .counts objectSection → o < n → p < 3 → g ≡ min (groupOf o p) pastRecords → c ≡ elements (tablesIn t) g
       → ltb i c ≡ isElement (tablesIn t) o p i
   unfolding isElement
   by-index n g c e h k q r =
-      let u : o < tablesIn t .counts object = rw e at h in
-      rw (lt-ltb o (tablesIn t .counts object) u, lt-ltb p 3 k, r, near-group g u k q)
+      let u : o < tablesIn t .counts objectSection = rw e at h in
+      rw (lt-ltb o (tablesIn t .counts objectSection) u, lt-ltb p 3 k, r, near-group g u k q)
 
   -- what an element is: its object's number, its part and its index are below their counts
   pub record Named : Type 0 where
-    pub object-below : o < tablesIn t .counts object
+    pub object-below : o < tablesIn t .counts objectSection
     pub part-below : p < 3
     pub index-below : i < elements (tablesIn t) (groupOf o p)
 
   pub named : isElement (tablesIn t) o p i ≡ true → Named
   unfolding isElement
   named h =
-      let a = ltb o (tablesIn t .counts object) in
+      let a = ltb o (tablesIn t .counts objectSection) in
       let b = ltb p 3 in
       let c = ltb i (elements (tablesIn t) (groupOf o p)) in
       record {
@@ -117,11 +117,11 @@ module _ (t : List ℕ) (o p i : ℕ) where
 pub ruleset named-elements = (no-object, no-part, by-index, needs)
 
 -- ---- reading
-pub reads : (t image : List ℕ) (g i : ℕ) (z y : ℤ) (p : Physical) (s : Shown) → z ≡ rawOf t image g i → y ≡ z → p ≡ held (means t g y) → toldShown s ≡ shown (meant p)
-    → toldRead (read.Element z p s) ≡ given (readingOf t g (rawOf t image g i))
+pub reads : (t image : List ℕ) (g i : ℕ) (z y : ℤ) (p : Physical) (s : Shown) → z ≡ rawIn t image g i → y ≡ z → p ≡ held (means t g y) → toldShown s ≡ shown (meant p)
+    → toldRead (read.Element z p s) ≡ given (readingOf t g (rawIn t image g i))
 reads t image g i z y p s a b c d =
-    let e : p ≡ held (means t g (rawOf t image g i)) = c ∙ rw (b, a) in
-    let f : toldShown s ≡ shown (means t g (rawOf t image g i)) = d ∙ ap shown (ap meant e ∙ meant-held (means t g (rawOf t image g i))) in
+    let e : p ≡ held (means t g (rawIn t image g i)) = c ∙ rw (b, a) in
+    let f : toldShown s ≡ shown (means t g (rawIn t image g i)) = d ∙ ap shown (ap meant e ∙ meant-held (means t g (rawIn t image g i))) in
     rw (f, e, a)
 
 module _ (t image : List ℕ) (l : Lent) (o p i : ℕ) (r : ℕ) (q : r ≡ checkedNo t l true) where
@@ -134,9 +134,9 @@ module _ (t image : List ℕ) (l : Lent) (o p i : ℕ) (r : ℕ) (q : r ≡ chec
     unfolding reading
     read-none k = rw (← e, k) (checked-passed t l true r q (refused 14) h)
 
-    pub read-is : (g : ℕ) (a : ReadAnswer) → b ≡ true → g ≡ min (groupOf o p) pastRecords → toldRead a ≡ given (readingOf t g (rawOf t image g i)) → toldRead a ≡ reading t image l o p i
+    pub read-is : (g : ℕ) (a : ReadAnswer) → b ≡ true → g ≡ min (groupOf o p) pastRecords → toldRead a ≡ given (readingOf t g (rawIn t image g i)) → toldRead a ≡ reading t image l o p i
     unfolding reading
     read-is g a k f w =
-        w ∙ rw (group-is t o p i b g e k f, ← e, k) (checked-passed t l true r q (given (readingOf t (groupOf o p) (rawOf t image (groupOf o p) i))) h)
+        w ∙ rw (group-is t o p i b g e k f, ← e, k) (checked-passed t l true r q (given (readingOf t (groupOf o p) (rawIn t image (groupOf o p) i))) h)
 
 pub ruleset readings = (reads, read-refused, read-none, read-is, needs)

@@ -12,10 +12,10 @@ use Rattle.convert.specs.Fraction.{Value, fractionOf}
 use Rattle.convert.specs.Told.{held}
 use Rattle.convert.specs.declared.fraction.Physical.{Physical}
 use Rattle.convert.specs.declared.method.Coefficients.{Coefficients}
-use Rattle.tables.specs.Form.{method, tablesIn, methodOf}
+use Rattle.tables.specs.Form.{methodSection, tablesIn, methodOf}
 use Rattle.tables.specs.Group.{placeOf, storageOf, placeBy}
 use Rattle.tables.specs.declared.group.Storage.{Storage}
-use Rattle.look.specs.Element.{pastRecords, textAt, meansBy, means, rawOf, lineWith, lineOf}
+use Rattle.look.specs.Element.{pastRecords, textAt, meansBy, means, rawIn, lineWith, lineOf}
 use Rattle.look.specs.Calls.{asksBy, isTabVerb}
 use Rattle.look.specs.Steps.{meaningOf}
 use Rattle.look.specs.declared.element.Line.{Line}
@@ -27,7 +27,7 @@ abbrev pub meant : List ℕ → Meaning → ℤ → Value
 meant t m z = cond (m .verbal) (textAt t (m .table) z) (fractionOf (m .k) z)
 
 module _ (t : List ℕ) (g : ℕ) where
-  pub meaning-is : (m n s u : ℕ) (b : Bool) (f : Coefficients) → m ≡ methodOf (tablesIn t) g → n ≡ min (m - 1) pastRecords → s ≡ tablesIn t .slots method n 9
+  pub meaning-is : (m n s u : ℕ) (b : Bool) (f : Coefficients) → m ≡ methodOf (tablesIn t) g → n ≡ min (m - 1) pastRecords → s ≡ tablesIn t .slots methodSection n 9
       → b ≡ isTabVerb (tablesIn t) g → u ≡ min (s - 1) pastRecords → f ≡ asksBy (tablesIn t) g
       → _≡_ {A = Meaning} (record { verbal = b; table = u; k = f }) (meaningOf t g)
   meaning-is m n s u b f pm pn ps pb pu pf = rw (pb, pu, pf, ps, pn, method-slot t 9 (m - 1), pm)
@@ -35,7 +35,7 @@ module _ (t : List ℕ) (g : ℕ) where
   means-turn : (z : ℤ) (b : Bool) → eqb (methodOf (tablesIn t) g) 0 ≡ b → meant t (meaningOf t g) z ≡ means t g z
   unfolding isTabVerb asksBy means meansBy
   means-turn z true e = rw e
-  means-turn z false e = rw (e, near-text t (tablesIn t .slots method (methodOf (tablesIn t) g - 1) 9 - 1) z)
+  means-turn z false e = rw (e, near-text t (tablesIn t .slots methodSection (methodOf (tablesIn t) g - 1) 9 - 1) z)
 
   -- y is what the machine reads back of z
   pub means-group : (z y : ℤ) (m : Meaning) (r : Physical) → r ≡ held (meant t m y) → y ≡ z → m ≡ meaningOf t g → r ≡ held (means t g z)
@@ -56,8 +56,8 @@ module _ (t image : List ℕ) (s : Storage) (i : ℕ) where
   pub raw-by-is : (p : ℕ) (r : ℤ) → p ≡ placeBy s i → r ≡ rawAt (s .first) p (shapeOf (s .kind)) (s .mask) image → r ≡ rawBy image s i
   raw-by-is p r e h = h ∙ rw e
 
-  pub raw-group : (g : ℕ) (r : ℤ) → s ≡ storageOf (tablesIn t) g → r ≡ rawBy image s i → r ≡ rawOf t image g i
-  unfolding rawOf placeOf
+  pub raw-group : (g : ℕ) (r : ℤ) → s ≡ storageOf (tablesIn t) g → r ≡ rawBy image s i → r ≡ rawIn t image g i
+  unfolding rawIn placeOf
   raw-group g r e h = h ∙ rw e
 
   -- x and y are what the machine reads back of z

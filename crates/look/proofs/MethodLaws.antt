@@ -8,7 +8,7 @@ use borrow.Author.Tests.{ne-eqb}
 use lib.Dec.{eqb}
 use Rattle.convert.specs.Method.{identicalOf}
 use Rattle.convert.specs.declared.method.Coefficients.{Coefficients}
-use Rattle.tables.specs.Form.{method, tablesIn, methodOf, coefficients}
+use Rattle.tables.specs.Form.{methodSection, tablesIn, methodOf, coefficients}
 use Rattle.look.specs.Element.{pastRecords}
 use Rattle.look.specs.Calls.{asksBy, isTabVerb}
 use Rattle.look.proofs.ElementLaws.{method-slot, near-coefficients}
@@ -18,7 +18,7 @@ module _ (t : List ℕ) (g m : ℕ) (p : m ≡ methodOf (tablesIn t) g) where
   unfolding isTabVerb
   verb-none e = rw (← p, e)
 
-  pub verb-is : (n k : ℕ) → (m ≡ 0 → ⊥) → n ≡ min (m - 1) pastRecords → k ≡ tablesIn t .slots method n 0 → eqb k 22 ≡ isTabVerb (tablesIn t) g
+  pub verb-is : (n k : ℕ) → (m ≡ 0 → ⊥) → n ≡ min (m - 1) pastRecords → k ≡ tablesIn t .slots methodSection n 0 → eqb k 22 ≡ isTabVerb (tablesIn t) g
   unfolding isTabVerb
   verb-is n k e q r = rw (r, q, method-slot t 0 (m - 1), ← p, ne-eqb m 0 e)
 

@@ -15,12 +15,12 @@ use Rattle.number.specs.Answer.{Answer, given, refused}
 use Rattle.cell.specs.Kind.{shapeOf}
 use Rattle.cell.specs.Raw.{fitsRaw}
 use Rattle.convert.specs.Asked.{askedRaw}
-use Rattle.tables.specs.Form.{object, Tables, tablesIn, kind, mask, forbidden, limit}
+use Rattle.tables.specs.Form.{objectSection, Tables, tablesIn, kind, mask, forbidden, limit}
 use Rattle.tables.specs.Group.{groupOf, bytes, placeOf}
 use Rattle.tables.specs.Rule.{keepsRule}
 use Rattle.tables.specs.Sizes.{sizesFit}
-use Rattle.look.specs.Element.{rawOf}
-use Rattle.look.specs.Calls.{Lent, lentBy, unless, checked, isElement, searchFrom, searched, readingOf, reading, Kept, hasRoom, remade, afterwards, making, Wanted, rawNumber, physicalText, Request, groupIn, onCount, asksBy, isTabVerb, wantedRaw, free, standing, judged, writtenTo, writing}
+use Rattle.look.specs.Element.{rawIn}
+use Rattle.look.specs.Calls.{Lent, lentBy, unless, checked, isElement, searchFrom, searched, readingOf, reading, Kept, hasRoom, remade, afterwards, making, Wanted, rawNumber, physicalText, Request, groupIn, onCount, asksBy, isTabVerb, wantedRaw, writable, judgedElement, judgedRequest, writtenTo, writing}
 use Rattle.convert.proofs.Laws.{asked-numbers}
 
 -- n is one of these
@@ -52,12 +52,12 @@ module _ {A : Type 0} where
 
 pub searched-numbers : (x t : List ℕ) (l : Lent) (w : List ℕ) → RefusedBy (20 ∷ 22 ∷ []) (searched x t l w)
 unfolding searched
-searched-numbers x t l w = checked-numbers t l true [] (given (searchFrom (tablesIn t .counts object) x (tablesIn t) w 0)) (given-numbers [] _)
+searched-numbers x t l w = checked-numbers t l true [] (given (searchFrom (tablesIn t .counts objectSection) x (tablesIn t) w 0)) (given-numbers [] _)
 
 pub reading-numbers : (t image : List ℕ) (l : Lent) (o p i : ℕ) → RefusedBy (20 ∷ 22 ∷ 14 ∷ []) (reading t image l o p i)
 unfolding reading
 reading-numbers t image l o p i =
-    let r = readingOf t (groupOf o p) (rawOf t image (groupOf o p) i) in
+    let r = readingOf t (groupOf o p) (rawIn t image (groupOf o p) i) in
     checked-numbers t l true (14 ∷ []) (unless (isElement (tablesIn t) o p i) 14 (given r)) (unless-numbers (isElement (tablesIn t) o p i) 14 [] (given r) (given-numbers [] r))
 
 pub making-numbers : (t : List ℕ) (n base : ℕ) (k : Kept) → RefusedBy (20 ∷ 22 ∷ []) (making t n base k .answer)
@@ -93,8 +93,8 @@ wanted-numbers T g (physicalText s) n e =
 abbrev pub writeOrder : List ℕ
 writeOrder = 20 ∷ 22 ∷ 14 ∷ 21 ∷ 19 ∷ 15 ∷ 16 ∷ 17 ∷ 18 ∷ []
 
-pub judged-numbers : (t : List ℕ) (l : Lent) (enough : Bool) (q : Request) → RefusedBy writeOrder (judged t l enough q)
-unfolding judged standing free
+pub judged-numbers : (t : List ℕ) (l : Lent) (enough : Bool) (q : Request) → RefusedBy writeOrder (judgedRequest t l enough q)
+unfolding judgedRequest judgedElement writable
 judged-numbers t l enough q =
     let T = tablesIn t in
     let g = groupIn q in
@@ -110,4 +110,4 @@ judged-numbers t l enough q =
 pub writing-numbers : (t : List ℕ) (n base : ℕ) (k : Kept) (q : Request) → RefusedBy writeOrder (writing t n base k q .answer)
 unfolding writing
 writing-numbers t n base k q =
-    after-numbers writeOrder (judged t (lentBy n base k) (hasRoom t k) q) k (writtenTo t (groupIn q) (q .index) k) (judged-numbers t (lentBy n base k) (hasRoom t k) q)
+    after-numbers writeOrder (judgedRequest t (lentBy n base k) (hasRoom t k) q) k (writtenTo t (groupIn q) (q .index) k) (judged-numbers t (lentBy n base k) (hasRoom t k) q)

@@ -12,7 +12,7 @@ use Rattle.number.specs.Answer.{Answer, given, refused}
 use Rattle.text.specs.Bytes.{byte, sameFor, samePart}
 use Rattle.text.proofs.ByteLaws.{SameFrom, same-start, same-on, same-differs, same-all}
 use Rattle.text.proofs.Within.{and-left, and-right}
-use Rattle.tables.specs.Form.{object, Tables, tablesIn}
+use Rattle.tables.specs.Form.{objectSection, Tables, tablesIn}
 use Rattle.look.specs.Calls.{Lent, searchFrom, searched}
 use Rattle.look.specs.Steps.{checkedNo}
 use Rattle.look.proofs.CheckLaws.{checked-refused, checked-passed}
@@ -34,24 +34,24 @@ below-name f t n k r p b l =
 
 -- the search from object i on answers what the whole search answers
 pub record Seeking (x : List ℕ) (v : Tables) (w : List ℕ) (i : ℕ) : Type 0 where
-  pub within : i ≤ v .counts object
-  pub goes : searchFrom (v .counts object - i) x v w i ≡ searchFrom (v .counts object) x v w 0
+  pub within : i ≤ v .counts objectSection
+  pub goes : searchFrom (v .counts objectSection - i) x v w i ≡ searchFrom (v .counts objectSection) x v w 0
 
 module _ (x : List ℕ) (v : Tables) (w : List ℕ) where
   pub seek-start : Seeking x v w 0
-  seek-start = let z : v .counts object - 0 ≡ v .counts object = omega arith in record { within = omega arith; goes = ap (λ n. searchFrom n x v w 0) z }
+  seek-start = let z : v .counts objectSection - 0 ≡ v .counts objectSection = omega arith in record { within = omega arith; goes = ap (λ n. searchFrom n x v w 0) z }
 
-  pub seek-end : (n i : ℕ) → n ≡ v .counts object → Seeking x v w i → n ≤ i → given 0 ≡ given (searchFrom (v .counts object) x v w 0)
+  pub seek-end : (n i : ℕ) → n ≡ v .counts objectSection → Seeking x v w i → n ≤ i → given 0 ≡ given (searchFrom (v .counts objectSection) x v w 0)
   unfolding searchFrom
-  seek-end n i p q h = let z : v .counts object - i ≡ 0 = omega arith in ap (λ (y : ℕ). given y) (rw z at (q .goes))
+  seek-end n i p q h = let z : v .counts objectSection - i ≡ 0 = omega arith in ap (λ (y : ℕ). given y) (rw z at (q .goes))
 
-  module _ (n i : ℕ) (p : n ≡ v .counts object) (q : Seeking x v w i) (h : i < n) where
-    look : cond (samePart x (v .slots object i 0) (v .slots object i 1) w 0 (length w)) (suc i) (searchFrom (v .counts object - (i + 1)) x v w (suc i)) ≡ searchFrom (v .counts object) x v w 0
+  module _ (n i : ℕ) (p : n ≡ v .counts objectSection) (q : Seeking x v w i) (h : i < n) where
+    look : cond (samePart x (v .slots objectSection i 0) (v .slots objectSection i 1) w 0 (length w)) (suc i) (searchFrom (v .counts objectSection - (i + 1)) x v w (suc i)) ≡ searchFrom (v .counts objectSection) x v w 0
     unfolding searchFrom
-    look = let z : v .counts object - i ≡ suc (v .counts object - (i + 1)) = omega arith in rw z at (q .goes)
+    look = let z : v .counts objectSection - i ≡ suc (v .counts objectSection - (i + 1)) = omega arith in rw z at (q .goes)
 
     -- the object's name is from f up to t, and r whether it has m bytes
-    module _ (f t m : ℕ) (pf : f ≡ v .slots object i 0) (pt : t ≡ v .slots object i 1) (pm : m ≡ length w)
+    module _ (f t m : ℕ) (pf : f ≡ v .slots objectSection i 0) (pt : t ≡ v .slots objectSection i 1) (pm : m ≡ length w)
         (r : Bool) (pr : r ≡ (leb f t && leb 0 m && eqb (t - f) (m - 0))) where
       pub seek-short : r ≡ false → Seeking x v w (i + 1)
       unfolding samePart
@@ -71,7 +71,7 @@ module _ (x : List ℕ) (v : Tables) (w : List ℕ) where
         unfolding samePart
         part-is = rw (sized, long-as)
 
-        pub seek-found : (k : ℕ) → SameFrom x f w 0 m k → m ≤ k → given (suc i) ≡ given (searchFrom (v .counts object) x v w 0)
+        pub seek-found : (k : ℕ) → SameFrom x f w 0 m k → m ≤ k → given (suc i) ≡ given (searchFrom (v .counts objectSection) x v w 0)
         seek-found k s l = ap (λ (y : ℕ). given y) (rw (← pf, ← pt, ← pm, part-is, ← same-all x f w 0 m k s l) at look)
 
         pub seek-other : (k c d : ℕ) → SameFrom x f w 0 m k → k < m → c ≡ byte x (f + k) → d ≡ byte w k → (c ≡ d → ⊥) → Seeking x v w (i + 1)
@@ -92,8 +92,8 @@ module _ (x t w : List ℕ) (l : Lent) (r : ℕ) (q : r ≡ checkedNo t l true) 
   unfolding searched
   search-refused h = checked-refused t l true r q _ h
 
-  pub search-is : (a : Answer ℕ) → r ≡ 0 → a ≡ given (searchFrom (tablesIn t .counts object) x (tablesIn t) w 0) → a ≡ searched x t l w
+  pub search-is : (a : Answer ℕ) → r ≡ 0 → a ≡ given (searchFrom (tablesIn t .counts objectSection) x (tablesIn t) w 0) → a ≡ searched x t l w
   unfolding searched
-  search-is a h e = e ∙ checked-passed t l true r q (given (searchFrom (tablesIn t .counts object) x (tablesIn t) w 0)) h
+  search-is a h e = e ∙ checked-passed t l true r q (given (searchFrom (tablesIn t .counts objectSection) x (tablesIn t) w 0)) h
 
 pub ruleset searches = (search-refused, search-is, needs)

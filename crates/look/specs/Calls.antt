@@ -15,13 +15,13 @@ use Rattle.convert.specs.Told.{held}
 use Rattle.convert.specs.declared.fraction.Physical.{Physical}
 use Rattle.convert.specs.declared.method.Coefficients.{Coefficients}
 use Rattle.text.specs.Bytes.{samePart}
-use Rattle.tables.specs.Form.{object, group, method, Tables, tablesIn, total, kind, first, methodOf, mask, forbidden, counter, counterPlace, limit, coefficients}
+use Rattle.tables.specs.Form.{objectSection, groupSection, methodSection, Tables, tablesIn, total, kind, first, methodOf, mask, forbidden, counter, counterPlace, limit, coefficients}
 use Rattle.tables.specs.Group.{groupOf, elements, bytes, placeOf}
 use Rattle.tables.specs.Rule.{isVerbal, keepsRule}
 use Rattle.tables.specs.Sizes.{sizesFit}
 use Rattle.look.specs.declared.element.Line.{Line}
 use Rattle.look.specs.Lines.{made, fresh}
-use Rattle.look.specs.Element.{means, rawOf, lineOf, shares, touched}
+use Rattle.look.specs.Element.{means, rawIn, lineOf, shares, touched}
 
 -- a length of description, a length of image, a base address: what a call lends beside the tables
 pub record Lent : Type 0 where
@@ -43,17 +43,17 @@ checked t l enough a =
 
 -- "14: no such element": object number, part (x 0, y 1, v 2) and index
 unfoldable pub isElement : Tables → ℕ → ℕ → ℕ → Bool
-isElement T o p i = ltb o (T .counts object) && ltb p 3 && ltb i (elements T (groupOf o p))
+isElement T o p i = ltb o (T .counts objectSection) && ltb p 3 && ltb i (elements T (groupOf o p))
 
 -- ---- the plain search: "The search for a name stops at the first object that bears it."
 
 -- the first object from i on, of f, that bears the name; its number and one more, 0 for none
 unfoldable pub searchFrom : ℕ → List ℕ → Tables → List ℕ → ℕ → ℕ
 searchFrom zero x T w i = 0
-searchFrom (suc f) x T w i = cond (samePart x (T .slots object i 0) (T .slots object i 1) w 0 (length w)) (suc i) (searchFrom f x T w (suc i))
+searchFrom (suc f) x T w i = cond (samePart x (T .slots objectSection i 0) (T .slots objectSection i 1) w 0 (length w)) (suc i) (searchFrom f x T w (suc i))
 
 unfoldable pub searched : List ℕ → List ℕ → Lent → List ℕ → Answer ℕ
-searched x t l w = checked t l true (given (searchFrom (tablesIn t .counts object) x (tablesIn t) w 0))
+searched x t l w = checked t l true (given (searchFrom (tablesIn t .counts objectSection) x (tablesIn t) w 0))
 
 -- ---- reading: "Reading an element: 20, 22, 14."
 
@@ -68,7 +68,7 @@ readingOf t g raw = record { raw = raw; value = held (means t g raw); display = 
 
 unfoldable pub reading : List ℕ → List ℕ → Lent → ℕ → ℕ → ℕ → Answer Reading
 reading t image l o p i =
-    checked t l true (unless (isElement (tablesIn t) o p i) 14 (given (readingOf t (groupOf o p) (rawOf t image (groupOf o p) i))))
+    checked t l true (unless (isElement (tablesIn t) o p i) 14 (given (readingOf t (groupOf o p) (rawIn t image (groupOf o p) i))))
 
 -- ---- the list
 
@@ -91,7 +91,7 @@ abbrev pub hasRoom : List ℕ → Kept → Bool
 hasRoom t k = leb (total (tablesIn t)) (room k)
 
 abbrev pub groups : List ℕ → ℕ
-groups t = tablesIn t .counts group
+groups t = tablesIn t .counts groupSection
 
 -- the list made anew from its image
 unfoldable pub remade : List ℕ → Kept → Kept
@@ -168,7 +168,7 @@ asksBy T g = cond (eqb (methodOf T g) 0) identicalOf (coefficients T (methodOf T
 
 -- whether group g has a verbal table
 unfoldable pub isTabVerb : Tables → ℕ → Bool
-isTabVerb T g = not (eqb (methodOf T g) 0) && isVerbal (T .slots method (methodOf T g - 1) 0)
+isTabVerb T g = not (eqb (methodOf T g) 0) && isVerbal (T .slots methodSection (methodOf T g - 1) 0)
 
 -- "Raw writes test type and mask, no limits." "15 .. physical write under TAB_VERB"
 abbrev pub wantedRaw : Tables → ℕ → Wanted → Answer ℤ
@@ -176,18 +176,18 @@ wantedRaw T g (rawNumber z) = unless (fitsRaw (shapeOf (kind T g)) (mask T g) z)
 wantedRaw T g (physicalText s) = unless (not (isTabVerb T g)) 15 (askedRaw (limit T g 11) (limit T g 14) (asksBy T g) (shapeOf (kind T g)) (mask T g) s)
 
 -- "21, 19": element i of group g may be written, and then the answer
-unfoldable pub free : {A : Type 0} → List ℕ → ℕ → ℕ → Answer A → Answer A
-free t g i a =
+unfoldable pub writable : {A : Type 0} → List ℕ → ℕ → ℕ → Answer A → Answer A
+writable t g i a =
     unless (not (forbidden (tablesIn t) g)) 21
     (unless (not (onCount t (placeOf (tablesIn t) g i) (placeOf (tablesIn t) g i + bytes (tablesIn t) g))) 19 a)
 
 -- "Write order: 20, 22, 14, 21, 19, ..": what is judged of the element, whatever is asked of it
-unfoldable pub standing : {A : Type 0} → List ℕ → Lent → Bool → ℕ → ℕ → ℕ → Answer A → Answer A
-standing t l enough o p i a = checked t l enough (unless (isElement (tablesIn t) o p i) 14 (free t (groupOf o p) i a))
+unfoldable pub judgedElement : {A : Type 0} → List ℕ → Lent → Bool → ℕ → ℕ → ℕ → Answer A → Answer A
+judgedElement t l enough o p i a = checked t l enough (unless (isElement (tablesIn t) o p i) 14 (writable t (groupOf o p) i a))
 
 -- "Write order: .. 15, 16, 17, 18.": the raw number that a request stores. No byte of the image is looked at.
-unfoldable pub judged : List ℕ → Lent → Bool → Request → Answer ℤ
-judged t l enough q = standing t l enough (q .object) (q .part) (q .index) (wantedRaw (tablesIn t) (groupIn q) (q .wanted))
+unfoldable pub judgedRequest : List ℕ → Lent → Bool → Request → Answer ℤ
+judgedRequest t l enough q = judgedElement t l enough (q .object) (q .part) (q .index) (wantedRaw (tablesIn t) (groupIn q) (q .wanted))
 
 -- the image with a raw number stored in element i of group g
 unfoldable pub stored : List ℕ → ℕ → ℕ → List ℕ → ℤ → List ℕ
@@ -199,7 +199,7 @@ writtenTo t g i k z =
     refreshed (touched t (placeOf (tablesIn t) g i) (placeOf (tablesIn t) g i + bytes (tablesIn t) g)) t (stored t g i (k .image) z) k
 
 unfoldable pub writing : List ℕ → ℕ → ℕ → Kept → Request → After
-writing t n base k q = afterwards (judged t (lentBy n base k) (hasRoom t k) q) k (writtenTo t (groupIn q) (q .index) k)
+writing t n base k q = afterwards (judgedRequest t (lentBy n base k) (hasRoom t k) q) k (writtenTo t (groupIn q) (q .index) k)
 
 -- line j of a list
 abbrev pub lineAt : Kept → ℕ → Line

@@ -12,7 +12,7 @@ use Rattle.convert.specs.Verbal.{verbalOf}
 use Rattle.convert.specs.Told.{held}
 use Rattle.convert.specs.declared.fraction.Physical.{Physical}
 use Rattle.records.specs.Cells.{baseIn}
-use Rattle.tables.specs.Form.{sections, method, table, entry, tablesIn, kind, first, methodOf, mask, coefficients}
+use Rattle.tables.specs.Form.{tableSections, methodSection, tableSection, entrySection, tablesIn, kind, first, methodOf, mask, coefficients}
 use Rattle.tables.specs.Group.{bytes, placeOf}
 use Rattle.tables.specs.Rule.{isVerbal}
 use Rattle.look.specs.declared.element.Line.{Line}
@@ -28,18 +28,18 @@ lastEntry = 1024
 
 -- the cell where entry e begins
 abbrev pub entryCell : ℕ → ℕ
-entryCell e = baseIn sections entry + (1 + 4 * e)
+entryCell e = baseIn tableSections entrySection + (1 + 4 * e)
 
 module _ (t : List ℕ) where
   -- the text that verbal table s gives (numbers past every capacity read as the capacity)
   unfoldable pub textAt : ℕ → ℤ → Value
   textAt s raw =
-      verbalOf t (entryCell (min (tablesIn t .slots table s 0) lastEntry)) (min (tablesIn t .slots table s 1) lastEntry) (tablesIn t .slots table s 2) (tablesIn t .slots table s 3) raw
+      verbalOf t (entryCell (min (tablesIn t .slots tableSection s 0) lastEntry)) (min (tablesIn t .slots tableSection s 1) lastEntry) (tablesIn t .slots tableSection s 2) (tablesIn t .slots tableSection s 3) raw
 
   -- method m: "TAB_VERB: the entry with that number gives its text", the others a fraction
   unfoldable pub meansBy : ℕ → ℤ → Value
   meansBy m raw =
-      cond (isVerbal (tablesIn t .slots method m 0)) (textAt (tablesIn t .slots method m 9 - 1) raw)
+      cond (isVerbal (tablesIn t .slots methodSection m 0)) (textAt (tablesIn t .slots methodSection m 9 - 1) raw)
       (fractionOf (coefficients (tablesIn t) m) raw)
 
   -- "IDENTICAL and NO_COMPU_METHOD are 1, 0, 0, 1."
@@ -48,8 +48,8 @@ module _ (t : List ℕ) where
 
   -- ---- the element of group g with index i, in an image
 
-  unfoldable pub rawOf : List ℕ → ℕ → ℕ → ℤ
-  rawOf image g i =
+  unfoldable pub rawIn : List ℕ → ℕ → ℕ → ℤ
+  rawIn image g i =
       rawAt (first (tablesIn t) g) (placeOf (tablesIn t) g i) (shapeOf (kind (tablesIn t) g)) (mask (tablesIn t) g) image
 
   -- "A line holds raw, state (0 none, 1 number, 2 text), and the fraction's two numbers, or the text's first byte and the one past it, quotes included; zeros for none."
@@ -57,7 +57,7 @@ module _ (t : List ℕ) where
   lineWith raw p = record { raw = raw; state = p .state; first = p .first; second = p .second }
 
   unfoldable pub lineOf : List ℕ → ℕ → ℕ → Line
-  lineOf image g i = lineWith (rawOf image g i) (held (means g (rawOf image g i)))
+  lineOf image g i = lineWith (rawIn image g i) (held (means g (rawIn image g i)))
 
 -- ---- bytes in common
 

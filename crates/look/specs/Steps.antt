@@ -5,11 +5,11 @@ use mathlib.Core.Bool.{Bool, cond, _||_}
 use lib.IntN.{pos}
 use lib.ListN.{getD, set}
 use Rattle.number.specs.Answer.{Answer, given, refused}
-use Rattle.tables.specs.Form.{method, tablesIn, methodOf}
+use Rattle.tables.specs.Form.{methodSection, tablesIn, methodOf}
 use Rattle.look.specs.declared.element.Line.{Line}
 use Rattle.look.specs.declared.meaning.Meaning.{Meaning}
 use Rattle.look.specs.Element.{pastRecords, lineOf, touched}
-use Rattle.look.specs.Calls.{Lent, checked, Kept, asksBy, isTabVerb, free, standing}
+use Rattle.look.specs.Calls.{Lent, checked, Kept, asksBy, isTabVerb, writable, judgedElement}
 
 -- ---- tests that are made one after the other
 -- the number of a refusal, 0 for none
@@ -22,19 +22,19 @@ abbrev pub checkedNo : List ℕ → Lent → Bool → ℕ
 checkedNo t l enough = refusalOf (checked t l enough (given (tt {0})))
 
 -- 21, 19
-abbrev pub freeNo : List ℕ → ℕ → ℕ → ℕ
-freeNo t g i = refusalOf (free t g i (given (tt {0})))
+abbrev pub writableNo : List ℕ → ℕ → ℕ → ℕ
+writableNo t g i = refusalOf (writable t g i (given (tt {0})))
 
 -- 20, 22, 14, 21, 19
-abbrev pub standingNo : List ℕ → Lent → Bool → ℕ → ℕ → ℕ → ℕ
-standingNo t l enough o p i = refusalOf (standing t l enough o p i (given (tt {0})))
+abbrev pub elementNo : List ℕ → Lent → Bool → ℕ → ℕ → ℕ → ℕ
+elementNo t l enough o p i = refusalOf (judgedElement t l enough o p i (given (tt {0})))
 
 -- ---- what is read once for a group
 -- what group g's raw numbers mean by: its verbal table and that table's number, or its coefficients
 abbrev pub meaningOf : List ℕ → ℕ → Meaning
 meaningOf t g = record {
   verbal = isTabVerb (tablesIn t) g;
-  table = min (tablesIn t .slots method (methodOf (tablesIn t) g - 1) 9 - 1) pastRecords;
+  table = min (tablesIn t .slots methodSection (methodOf (tablesIn t) g - 1) 9 - 1) pastRecords;
   k = asksBy (tablesIn t) g;
 }
 

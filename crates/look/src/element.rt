@@ -13,7 +13,7 @@ ghost use Rattle.convert.specs.Told.{held};
 ghost use Rattle.cell.specs.Kind.{shapeOf};
 ghost use Rattle.cell.specs.Raw.{rawAt};
 ghost use Rattle.tables.specs.Group.{placeBy};
-ghost use Rattle.look.specs.Element.{pastRecords, lastEntry, entryCell, textAt, rawOf};
+ghost use Rattle.look.specs.Element.{pastRecords, lastEntry, entryCell, textAt, rawIn};
 
 // A line of the list: the raw number, the state (0 none, 1 number, 2 text), and its two numbers or places.
 pub struct Line {
@@ -91,7 +91,7 @@ pub fn raw_by(image: &[u8], s: Storage, i: u32) -> i64
 
 // The raw number of an element.
 pub fn raw_of(t: &[u64], image: &[u8], g: u16, i: u32) -> i64
-    ensures { λ r. ⌜ r ≡ rawOf (now (t .entry)) (now (image .entry)) g i ⌝ }
+    ensures { λ r. ⌜ r ≡ rawIn (now (t .entry)) (now (image .entry)) g i ⌝ }
 {
     raw_by(image, storage_of(t, g), i)
 }

@@ -10,7 +10,7 @@ ghost use Prim.Native.Nat.{_-_};
 ghost use lib.Dec.{leb, eqb};
 ghost use lib.ListN.{length};
 ghost use Rattle.number.specs.Answer.{given};
-ghost use Rattle.tables.specs.Form.{object, tablesIn};
+ghost use Rattle.tables.specs.Form.{objectSection, tablesIn};
 ghost use Rattle.look.specs.Calls.{lentOf, searchFrom, searched};
 ghost use Rattle.look.specs.Told.{toldSearch};
 
@@ -33,7 +33,7 @@ fn are_as_many(from: usize, to: usize, n: usize) -> bool
 
 // The first object that bears a name.
 fn find(x: &[u8], t: &[u64], name: &[u8]) -> SearchAnswer
-    ensures { λ r. ⌜ toldSearch r ≡ given (searchFrom (tablesIn (now (t .entry)) .counts object) (now (x .entry)) (tablesIn (now (t .entry))) (now (name .entry)) 0) ⌝ }
+    ensures { λ r. ⌜ toldSearch r ≡ given (searchFrom (tablesIn (now (t .entry)) .counts objectSection) (now (x .entry)) (tablesIn (now (t .entry))) (now (name .entry)) 0) ⌝ }
 {
     let count = count_of(t, OBJECT);
     let n = name.len();

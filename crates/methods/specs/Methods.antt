@@ -41,6 +41,6 @@ abbrev pub converts : View → text.Answer (Unit {0})
 converts v = convertsFrom (v .counts method) v 0
 
 -- what `Converted` answers
-abbrev pub told : Converted → text.Answer (Unit {0})
-told variant.Fine = text.given tt
-told (variant.Refused n p) = text.refused n p
+abbrev pub toldMethods : Converted → text.Answer (Unit {0})
+toldMethods variant.Fine = text.given tt
+toldMethods (variant.Refused n p) = text.refused n p

@@ -12,7 +12,7 @@ use words::codes::RAT_FUNC;
 ghost use mathlib.Core.Path.{_≡_};
 ghost use Rattle.convert.specs.Told.{toldMethod};
 ghost use Rattle.grammar.specs.Move.{viewIn};
-ghost use Rattle.methods.specs.Methods.{linearAt, ratFuncAt, coefficients, converts, told};
+ghost use Rattle.methods.specs.Methods.{linearAt, ratFuncAt, coefficients, converts, toldMethods};
 
 // Every method has its coefficients, or the refusal of the first that has none.
 pub enum Converted {
@@ -57,7 +57,7 @@ pub fn coefficients_of(t: &[u64], i: u16) -> MethodAnswer
 
 // Judges every method of the records.
 pub fn convert_all(t: &[u64]) -> Converted
-    ensures { λ r. ⌜ told r ≡ converts (viewIn (now (t .entry))) ⌝ }
+    ensures { λ r. ⌜ toldMethods r ≡ converts (viewIn (now (t .entry))) ⌝ }
 {
     let count = count_of(t, METHOD);
     let mut i: u16 = 0;

@@ -18,7 +18,7 @@ use Rattle.grammar.specs.Move.{View, viewIn}
 use Rattle.grammar.specs.Parameter.{findFrom, find}
 use Rattle.place.specs.declared.judge.Standing.{Standing}
 use Rattle.objects.specs.Object.{led, judgeObject}
-use Rattle.objects.specs.Stage.{named, turnsOf, turnsFrom, weighed, marked, turn, judgeEach, judgeAll}
+use Rattle.objects.specs.Stage.{named, turnsOf, turnsFrom, totalOr, marked, turn, judgeEach, judgeAll}
 
 -- ---- a name that is searched leads to no record past the last
 
@@ -102,7 +102,7 @@ module _ (image : List ℕ) (base : ℕ) (x : List ℕ) (v : View) where
     pub standing : Standing
     pub is : judgeObject image base x v i used ≡ number.given standing
 
-  weighed-stands : (i used u p : ℕ) (a : number.Answer Standing) → judgeObject image base x v i used ≡ a → weighed p a ≡ given u → Stands i
+  weighed-stands : (i used u p : ℕ) (a : number.Answer Standing) → judgeObject image base x v i used ≡ a → totalOr p a ≡ given u → Stands i
   weighed-stands i used u p (number.given s) e q = record { used = used; standing = s; is = e }
   weighed-stands i used u p (number.refused n) e q = let z : _≡_ {A = ℕ} 0 1 = cc in absurd (omega arith)
 

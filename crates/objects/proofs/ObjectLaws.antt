@@ -9,7 +9,7 @@ use Rattle.cell.specs.Kind.{shapeOf}
 use Rattle.cell.specs.Mask.{maskRule}
 use Rattle.rows.specs.Sections.{object}
 use Rattle.grammar.specs.Move.{View}
-use Rattle.place.specs.Judge.{judged}
+use Rattle.place.specs.Judge.{judgedObject}
 use Rattle.place.specs.Told.{toldPlaced, toldJudged}
 use Rattle.place.specs.Walk.{placement}
 use Rattle.place.specs.declared.judge.Judged.{Judged}
@@ -35,7 +35,7 @@ module _ (image : List ℕ) (base : ℕ) (x : List ℕ) (v : View) (i : ℕ) whe
     judge-masked h = rw (← p, h)
 
     pub judge-is : b ≡ true → (g : Ground) (n : Need) (l : Layout) (r : Judged) → g ≡ groundOf x v base i → n ≡ needOf image base x v i → l ≡ layoutOf x v i
-        → toldJudged r ≡ judged image g n l used → toldJudged r ≡ judgeObject image base x v i used
+        → toldJudged r ≡ judgedObject image g n l used → toldJudged r ≡ judgeObject image base x v i used
     unfolding judgeObject
     judge-is h g n l r pg pn pl pr = rw (← p, h, pr, pg, pn, pl)
 

@@ -8,7 +8,7 @@ use borrow.Author.Tests.{leb-true}
 use lib.Dec.{leb}
 use Rattle.number.specs.Answer.{Answer, given, refused}
 use Rattle.grammar.specs.Move.{View}
-use Rattle.place.specs.Judge.{elements, allInside, weighed, after, judged}
+use Rattle.place.specs.Judge.{elementsStored, allInside, weighed, after, judgedObject}
 use Rattle.place.specs.Walk.{placement}
 use Rattle.place.specs.declared.judge.Standing.{Standing}
 use Rattle.place.specs.declared.order.Layout.{Layout}
@@ -21,7 +21,7 @@ use Rattle.objects.specs.Object.{layoutOf, groundOf, needOf, maskFits, j
 pub record Weighed (image : List ℕ) (base : ℕ) (n : Need) (l : Layout) (used : ℕ) (s : Standing) (p : Places) : Type 0 where
   pub places : s .places ≡ p
   pub inside : allInside image base n l p ≡ true
-  pub total : s .total ≡ used + elements n p
+  pub total : s .total ≡ used + elementsStored n p
   pub most : s .total ≤ 4096
 
 -- object i stands at s, after others with so many elements
@@ -35,17 +35,17 @@ pub record Share (image : List ℕ) (base : ℕ) (x : List ℕ) (v : View) (i us
   pub most : s .total ≤ 4096
 
 module _ (image : List ℕ) (base : ℕ) (n : Need) (l : Layout) (used : ℕ) (s : Standing) where
-  weighed-turn : (p : Places) (a b : Bool) → leb (used + elements n p) 4096 ≡ a → allInside image base n l p ≡ b
-      → cond a (cond b (given (record { places = p; total = used + elements n p })) (refused 12)) (refused 8) ≡ given s → Weighed image base n l used s p
+  weighed-turn : (p : Places) (a b : Bool) → leb (used + elementsStored n p) 4096 ≡ a → allInside image base n l p ≡ b
+      → cond a (cond b (given (record { places = p; total = used + elementsStored n p })) (refused 12)) (refused 8) ≡ given s → Weighed image base n l used s p
   weighed-turn p true true e f q =
-      let t : used + elements n p ≡ s .total = cc in
-      record { places = cc; inside = f; total = sym t; most = omega (arith, leb-true (used + elements n p) 4096 e) }
+      let t : used + elementsStored n p ≡ s .total = cc in
+      record { places = cc; inside = f; total = sym t; most = omega (arith, leb-true (used + elementsStored n p) 4096 e) }
   weighed-turn p true false e f q = let z : _≡_ {A = ℕ} 0 1 = cc in absurd (omega arith)
   weighed-turn p false b e f q = let z : _≡_ {A = ℕ} 0 1 = cc in absurd (omega arith)
 
   weighed-is : (p : Places) → weighed image base n l used p ≡ given s → Weighed image base n l used s p
   unfolding weighed
-  weighed-is p q = weighed-turn p (leb (used + elements n p) 4096) (allInside image base n l p) refl refl q
+  weighed-is p q = weighed-turn p (leb (used + elementsStored n p) 4096) (allInside image base n l p) refl refl q
 
 module _ (image : List ℕ) (base : ℕ) (x : List ℕ) (v : View) (i used : ℕ) (s : Standing) where
   share-after : (a : Answer Reached) → placement (groundOf x v base i) (needOf image base x v i) image (layoutOf x v i) ≡ a → maskFits x v i ≡ true
@@ -56,8 +56,8 @@ module _ (image : List ℕ) (base : ℕ) (x : List ℕ) (v : View) (i used : ℕ
       record { mask = m; reached = r; placed = e; places = rw e (w .places); inside = rw e (w .inside); total = rw e (w .total); most = w .most }
   share-after (refused k) e m q = let z : _≡_ {A = ℕ} 0 1 = cc in absurd (omega arith)
 
-  share-masked : (b : Bool) → maskFits x v i ≡ b → cond b (judged image (groundOf x v base i) (needOf image base x v i) (layoutOf x v i) used) (refused 11) ≡ given s → Share image base x v i used s
-  unfolding judged
+  share-masked : (b : Bool) → maskFits x v i ≡ b → cond b (judgedObject image (groundOf x v base i) (needOf image base x v i) (layoutOf x v i) used) (refused 11) ≡ given s → Share image base x v i used s
+  unfolding judgedObject
   share-masked true m q = share-after (placement (groundOf x v base i) (needOf image base x v i) image (layoutOf x v i)) refl m q
   share-masked false m q = let z : _≡_ {A = ℕ} 0 1 = cc in absurd (omega arith)
 

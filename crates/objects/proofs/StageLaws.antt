@@ -19,7 +19,7 @@ use Rattle.place.specs.declared.judge.Judged.{Judged}
 use Rattle.place.specs.declared.judge.Judged.the-variants as judge
 use Rattle.place.specs.declared.judge.Standing.{Standing}
 use Rattle.objects.specs.Object.{axisAt, sharedBy, judgeObject}
-use Rattle.objects.specs.Stage.{names, named, turnsOf, turnsFrom, weighed, marked, turn, judgeEach, Goes, judgeAll, toldTurn}
+use Rattle.objects.specs.Stage.{names, named, turnsOf, turnsFrom, totalOr, marked, turn, judgeEach, Goes, judgeAll, toldTurn}
 use Rattle.objects.specs.declared.stage.Turn.{Turn}
 use Rattle.objects.specs.declared.stage.Turn.the-variants as variant
 use Rattle.objects.proofs.Shares.{share}
@@ -40,10 +40,10 @@ module _ (image : List ℕ) (base : ℕ) (x : List ℕ) (v : View) (i used : ℕ
     pub total-fits : (s : Standing) → r ≡ judge.Stands s → Fits w32 (s .total)
     total-fits s y = record { fits = omega (arith, share image base x v i used s (sym p ∙ ap toldJudged y) .most) }
 
-    pub weigh-stands : (s : Standing) → r ≡ judge.Stands s → given (s .total) ≡ weighed (v .slots object i 0) (judgeObject image base x v i used)
+    pub weigh-stands : (s : Standing) → r ≡ judge.Stands s → given (s .total) ≡ totalOr (v .slots object i 0) (judgeObject image base x v i used)
     weigh-stands s y = rw (← p, y)
 
-    pub weigh-refused : (n m : ℕ) → r ≡ judge.Refused n → m ≡ v .slots object i 0 → refused n m ≡ weighed (v .slots object i 0) (judgeObject image base x v i used)
+    pub weigh-refused : (n m : ℕ) → r ≡ judge.Refused n → m ≡ v .slots object i 0 → refused n m ≡ totalOr (v .slots object i 0) (judgeObject image base x v i used)
     weigh-refused n m y q = rw (← p, y, q)
 
 pub ruleset weights = (total-fits, weigh-stands, weigh-refused)
@@ -64,7 +64,7 @@ goes-one image base x v seen i used r seen′ p q = record { on = λ rest. rw (p
 module _ (image : List ℕ) (base : ℕ) (x : List ℕ) (v : View) (seen : List ℕ) where
   -- b is what `is_open` gave
   module _ (i used : ℕ) (b : Bool) (p : b ≡ eqb (getD seen i 0) 0) where
-    pub turn-open : b ≡ true → (r : Answer ℕ) → r ≡ weighed (v .slots object i 0) (judgeObject image base x v i used) → r ≡ turn image base x v seen i used
+    pub turn-open : b ≡ true → (r : Answer ℕ) → r ≡ totalOr (v .slots object i 0) (judgeObject image base x v i used) → r ≡ turn image base x v seen i used
     unfolding turn
     turn-open h r q = rw (← p, h, q)
 

@@ -40,7 +40,7 @@ module _ (f g : ℕ → ℕ) (j d : ℕ) (other : (k : ℕ) → (k ≡ j → ⊥
       last false e ih = omega (arith, ih (omega (arith, eqb-false j n e)), other n (λ y. eqb-false j n e (sym y)))
 
 module _ (image : List ℕ) (base : ℕ) (x : List ℕ) (v : View) where
-  share-told : (i used p u : ℕ) (a : number.Answer Standing) → judgeObject image base x v i used ≡ a → stage.weighed p a ≡ given u → (u ≡ used + elementsOf image base x v i) × (u ≤ 4096)
+  share-told : (i used p u : ℕ) (a : number.Answer Standing) → judgeObject image base x v i used ≡ a → stage.totalOr p a ≡ given u → (u ≡ used + elementsOf image base x v i) × (u ≤ 4096)
   share-told i used p u (number.given s) e q =
       let t : s .total ≡ u = cc in
       let k : Share image base x v i used s = share image base x v i used s e in
@@ -72,7 +72,7 @@ module _ (image : List ℕ) (base : ℕ) (x : List ℕ) (v : View) where
     pub own : eqb (getD (marked seen j) j 0) 0 ≡ false
 
   took-turn : (seen : List ℕ) (j used u : ℕ) → j < length seen → j < v .counts object → (b : Bool) → eqb (getD seen j 0) 0 ≡ b
-      → cond b (stage.weighed (v .slots object j 0) (judgeObject image base x v j used)) (given used) ≡ given u → Took seen j used u
+      → cond b (stage.totalOr (v .slots object j 0) (judgeObject image base x v j used)) (given used) ≡ given u → Took seen j used u
   took-turn seen j used u l h true e q =
       let k : (u ≡ used + elementsOf image base x v j) × (u ≤ 4096) = share-told j used (v .slots object j 0) u (judgeObject image base x v j used) refl q in
       record {

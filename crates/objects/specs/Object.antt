@@ -12,7 +12,7 @@ use Rattle.rows.specs.Sections.{file, layout, object, axis}
 use Rattle.grammar.specs.Move.{View}
 use Rattle.grammar.specs.Parameter.{find}
 use Rattle.place.specs.Walk.{placement}
-use Rattle.place.specs.Judge.{elements, judged}
+use Rattle.place.specs.Judge.{elementsStored, judgedObject}
 use Rattle.place.specs.declared.judge.Standing.{Standing}
 use Rattle.place.specs.declared.order.Aligns.{Aligns}
 use Rattle.place.specs.declared.order.Entry.{Entry}
@@ -151,7 +151,7 @@ module _ (image : List ℕ) (base : ℕ) (x : List ℕ) (v : View) where
 
   -- "each object's layout and mask (11), counts (12, 13), share of the element total (8), element bytes (12)", after others with so many elements
   unfoldable pub judgeObject : ℕ → ℕ → Answer Standing
-  judgeObject i used = cond (maskFits x v i) (judged image (groundOf x v base i) (needOf i) (layoutOf x v i) used) (refused 11)
+  judgeObject i used = cond (maskFits x v i) (judgedObject image (groundOf x v base i) (needOf i) (layoutOf x v i) used) (refused 11)
 
   -- where object i's parts stand
   unfoldable pub placesOf : ℕ → Places
@@ -159,4 +159,4 @@ module _ (image : List ℕ) (base : ℕ) (x : List ℕ) (v : View) where
 
   -- how many elements object i has of its own
   unfoldable pub elementsOf : ℕ → ℕ
-  elementsOf i = elements (needOf i) (placesOf i)
+  elementsOf i = elementsStored (needOf i) (placesOf i)

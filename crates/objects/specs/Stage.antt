@@ -33,9 +33,9 @@ turnsFrom zero x v i = []
 turnsFrom (suc f) x v i = turnsOf x v i ++ turnsFrom f x v (suc i)
 
 -- "in the last two stages the method's or object's name": a judgement with its place; how many elements there are from here on
-abbrev pub weighed : ℕ → number.Answer Standing → Answer ℕ
-weighed p (number.given s) = given (s .total)
-weighed p (number.refused n) = refused n p
+abbrev pub totalOr : ℕ → number.Answer Standing → Answer ℕ
+totalOr p (number.given s) = given (s .total)
+totalOr p (number.refused n) = refused n p
 
 -- an object is judged at its first turn: seen has a 1 for each that was
 abbrev pub marked : List ℕ → ℕ → List ℕ
@@ -43,7 +43,7 @@ marked seen i = cond (eqb (getD seen i 0) 0) (set seen i 1) seen
 
 module _ (image : List ℕ) (base : ℕ) (x : List ℕ) (v : View) where
   unfoldable pub turn : List ℕ → ℕ → ℕ → Answer ℕ
-  turn seen i used = cond (eqb (getD seen i 0) 0) (weighed (v .slots object i 0) (judgeObject image base x v i used)) (given used)
+  turn seen i used = cond (eqb (getD seen i 0) 0) (totalOr (v .slots object i 0) (judgeObject image base x v i used)) (given used)
 
   -- turn after turn; the first refusal stays
   unfoldable pub judgeEach : List ℕ → List ℕ → ℕ → Answer ℕ

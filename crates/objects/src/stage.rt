@@ -15,7 +15,7 @@ ghost use lib.ListN.{getD, set};
 ghost use Rattle.rows.specs.Sections.{object};
 ghost use Rattle.grammar.specs.Move.{viewIn};
 ghost use Rattle.objects.specs.Object.{judgeObject};
-ghost use Rattle.objects.specs.Stage.{names, named, turnsOf, turnsFrom, marked, weighed, turn, judgeEach, judgeAll, toldTurn, Goes};
+ghost use Rattle.objects.specs.Stage.{names, named, turnsOf, turnsFrom, marked, totalOr, turn, judgeEach, judgeAll, toldTurn, Goes};
 
 // How many elements there are from here on, or the first refusal.
 pub enum Turn {
@@ -46,7 +46,7 @@ fn mark(seen: &mut [u8], i: u16)
 
 // The judgement of object i with its place.
 fn weigh(image: &[u8], base: u32, x: &[u8], t: &[u64], i: u16, used: u32) -> Turn
-    ensures { λ r. ⌜ toldTurn r ≡ weighed (viewIn (now (t .entry)) .slots object i 0) (judgeObject (now (image .entry)) base (now (x .entry)) (viewIn (now (t .entry))) i used) ⌝ }
+    ensures { λ r. ⌜ toldTurn r ≡ totalOr (viewIn (now (t .entry)) .slots object i 0) (judgeObject (now (image .entry)) base (now (x .entry)) (viewIn (now (t .entry))) i used) ⌝ }
 {
     match judge_one(image, base, x, t, i, used) {
         Judged::Stands(s) => Turn::Total(s.total as u32),

@@ -22,7 +22,7 @@ use Rattle.cell.proofs.Signed.{back, returned}
 use Rattle.cell.proofs.Types.{clash}
 use Rattle.place.specs.Align.{aligned}
 use Rattle.place.specs.Inside.{inside}
-use Rattle.place.specs.Walk.{startOf, pointsOf, within, countIn, countAt}
+use Rattle.place.specs.Walk.{startOf, pointsOf, within, countStored, countAt}
 use Rattle.place.specs.declared.rules.Axis.{Axis}
 use Rattle.place.specs.declared.walk.Ground.{Ground}
 use Rattle.place.specs.declared.walk.Reached.{Reached}
@@ -83,24 +83,24 @@ is-within a = refl
 pub ruleset axes = (points-stored, points-given, is-within, needs)
 
 -- a stored count
-low : (most : ℕ) (z : ℤ) → ltZ z (pos 1) ≡ true → refused 13 ≡ countIn most z
-unfolding countIn
+low : (most : ℕ) (z : ℤ) → ltZ z (pos 1) ≡ true → refused 13 ≡ countStored most z
+unfolding countStored
 low most (pos n) h = let k = ltb-true n 1 h in rw (lt-leb 1 n k)
 low most (negsuc n) h = refl
 
-above : (most : ℕ) (z : ℤ) → ltZ z (pos 1) ≡ false → most < natAbs z → refused 13 ≡ countIn most z
-unfolding countIn
+above : (most : ℕ) (z : ℤ) → ltZ z (pos 1) ≡ false → most < natAbs z → refused 13 ≡ countStored most z
+unfolding countStored
 above most (pos n) h g = let k = ltb-false n 1 h in rw (le-leb 1 n k, lt-leb n most g)
 above most (negsuc n) h g = clash h
 
-counted : (most : ℕ) (z : ℤ) → ltZ z (pos 1) ≡ false → natAbs z ≤ most → given (natAbs z) ≡ countIn most z
-unfolding countIn
+counted : (most : ℕ) (z : ℤ) → ltZ z (pos 1) ≡ false → natAbs z ≤ most → given (natAbs z) ≡ countStored most z
+unfolding countStored
 counted most (pos n) h g = let k = ltb-false n 1 h in rw (le-leb 1 n k, le-leb n most g)
 counted most (negsuc n) h g = clash h
 
 -- by what the machine reads back of a parameter
 module _ (most : ℕ) (z : ℤ) (f : SFits w64 z) where
-  pub count-low : ltZ (back z) (pos 1) ≡ true → refused 13 ≡ countIn most z
+  pub count-low : ltZ (back z) (pos 1) ≡ true → refused 13 ≡ countStored most z
   count-low h = low most z (sym (ap (λ (x : ℤ). ltZ x (pos 1)) (toZ-ofZ f)) ∙ h)
 
   module _ (h : ltZ (back z) (pos 1) ≡ false) (n : ℕ) (e : n ≡ natAbs (back z)) where
@@ -110,10 +110,10 @@ module _ (most : ℕ) (z : ℤ) (f : SFits w64 z) where
     from : ltZ z (pos 1) ≡ false
     from = sym (ap (λ (x : ℤ). ltZ x (pos 1)) (toZ-ofZ f)) ∙ h
 
-    pub count-above : most < n → refused 13 ≡ countIn most z
+    pub count-above : most < n → refused 13 ≡ countStored most z
     count-above g = above most z from (omega (arith, is-n))
 
-    pub count-of : n ≤ most → given n ≡ countIn most z
+    pub count-of : n ≤ most → given n ≡ countStored most z
     count-of g = ap (λ (m : ℕ). given m) is-n ∙ counted most z from (omega (arith, is-n))
 
 pub ruleset counts = (count-low, count-above, count-of, needs)
@@ -127,9 +127,9 @@ module _ (image : List ℕ) (g : Ground) (kind at most : ℕ) (t : Shape) (b : B
   at-out f = rw (sym is-in ∙ f)
 
   pub at-in : b ≡ true → (z : ℤ) → mag z < 2 ^ 63 → z ≡ rawAt (g .first) (at - g .base) (shapeOf kind) 0 image
-      → (c : Answer ℕ) → c ≡ countIn most (back z) → c ≡ countAt image g kind at most
+      → (c : Answer ℕ) → c ≡ countStored most (back z) → c ≡ countAt image g kind at most
   unfolding countAt
-  at-in f z m r c h = rw (sym is-in ∙ f) (h ∙ ap (countIn most) (returned z m ∙ r))
+  at-in f z m r c h = rw (sym is-in ∙ f) (h ∙ ap (countStored most) (returned z m ∙ r))
 
 pub ruleset counts-at = (in-from, at-out, at-in, needs)
 

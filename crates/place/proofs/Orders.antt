@@ -7,7 +7,7 @@ use borrow.Author.Tests.{lt-ltb, le-ltb}
 use borrow.Author.Needs.{needs}
 use lib.Dec.{eqb, ltb}
 use Rattle.place.specs.Order.{insert, inOrder, parts}
-use Rattle.place.specs.Rules.{both, apart, apartFrom, allApart, distinct, before, counted, same, matching, sound}
+use Rattle.place.specs.Rules.{both, apart, apartFrom, allApart, distinct, comesBefore, counted, same, matching, soundLayout}
 use Rattle.place.specs.declared.order.Entry.{Entry}
 use Rattle.place.specs.declared.order.Layout.{Layout}
 use Rattle.place.specs.declared.order.Role.{Role}
@@ -51,16 +51,16 @@ module _ (p q : Entry) where
   unfolding apart both
   apart-first h = rw h
 
-  pub before-both : p .present ≡ true → q .present ≡ true → ltb (p .position) (q .position) ≡ before p q
-  unfolding before both
+  pub before-both : p .present ≡ true → q .present ≡ true → ltb (p .position) (q .position) ≡ comesBefore p q
+  unfolding comesBefore both
   before-both h g = rw (h, g)
 
-  pub before-second : p .present ≡ true → q .present ≡ false → true ≡ before p q
-  unfolding before both
+  pub before-second : p .present ≡ true → q .present ≡ false → true ≡ comesBefore p q
+  unfolding comesBefore both
   before-second h g = rw (h, g)
 
-  pub before-first : p .present ≡ false → true ≡ before p q
-  unfolding before both
+  pub before-first : p .present ≡ false → true ≡ comesBefore p q
+  unfolding comesBefore both
   before-first h = rw h
 
 pub ruleset pairs = (apart-both, apart-second, apart-first, before-both, before-second, before-first, needs)
@@ -75,7 +75,7 @@ unfolding distinct allApart apartFrom
 ten l a b c d e f g h i j p q r s t u v w x y = rw (p, q, r, s, t, u, v, w, x, y) (simp (and-assoc, and-true))
 
 pub are-counted : (l : Layout) (a b c d : Bool)
-    → a ≡ before (l .nx) (l .x) → b ≡ before (l .nx) (l .values) → c ≡ before (l .ny) (l .y) → d ≡ before (l .ny) (l .values)
+    → a ≡ comesBefore (l .nx) (l .x) → b ≡ comesBefore (l .nx) (l .values) → c ≡ comesBefore (l .ny) (l .y) → d ≡ comesBefore (l .ny) (l .values)
     → (a && b && c && d) ≡ counted l
 unfolding counted
 are-counted l a b c d p q r s = rw (p, q, r, s)
@@ -86,8 +86,8 @@ pub are-matching : (n : Need) (l : Layout) (a b c : Bool)
 unfolding matching
 are-matching n l a b c p q r = rw (p, q, r)
 
-pub is-sound : (n : Need) (l : Layout) (a b c : Bool) → a ≡ matching n l → b ≡ distinct l → c ≡ counted l → (a && b && c) ≡ sound n l
-unfolding sound
+pub is-sound : (n : Need) (l : Layout) (a b c : Bool) → a ≡ matching n l → b ≡ distinct l → c ≡ counted l → (a && b && c) ≡ soundLayout n l
+unfolding soundLayout
 is-sound n l a b c p q r = rw (p, q, r)
 
 pub ruleset rules = (are-counted, are-matching, is-sound, needs)

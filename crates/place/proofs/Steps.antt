@@ -11,7 +11,7 @@ use Rattle.cell.specs.declared.kind.Shape.{Shape}
 use Rattle.cell.proofs.Shapes.{bytes-of}
 use Rattle.place.specs.Align.{alignment}
 use Rattle.place.specs.Order.{inOrder, parts}
-use Rattle.place.specs.Rules.{sound}
+use Rattle.place.specs.Rules.{soundLayout}
 use Rattle.place.specs.Told.{toldCount, toldPlaced}
 use Rattle.place.specs.Walk.{startOf, pointsOf, within, countAt, valuesAt, xAt, yAt, countXAt, countYAt, standing, placeOne, step, allPlaced, start, placement, freeOf}
 use Rattle.place.specs.declared.order.Layout.{Layout}
@@ -116,11 +116,11 @@ module _ (g : Ground) (n : Need) (image : List ℕ) (l : Layout) where
   unfolding allPlaced
   in-turn a b c d z m o p q r s u i v w x y k = rw (← m, k, y, x, w, v, i)
 
-  pub unsound : (b : Bool) → b ≡ sound n l → b ≡ false → refused 11 ≡ placement g n image l
+  pub unsound : (b : Bool) → b ≡ soundLayout n l → b ≡ false → refused 11 ≡ placement g n image l
   unfolding placement
   unsound b e f = rw (← e, f)
 
-  module _ (b x y : Bool) (e : b ≡ sound n l) (f : b ≡ true) (h : x ≡ within (n .x)) (k : y ≡ within (n .y)) where
+  module _ (b x y : Bool) (e : b ≡ soundLayout n l) (f : b ≡ true) (h : x ≡ within (n .x)) (k : y ≡ within (n .y)) where
     pub not-within : (x && y) ≡ false → refused 13 ≡ placement g n image l
     unfolding placement
     not-within t = rw (← e, f, ← h, ← k, t)

@@ -13,8 +13,8 @@ use Rattle.cell.specs.Raw.{rawAt}
 use Rattle.place.specs.Align.{alignment}
 use Rattle.place.specs.Inside.{inside}
 use Rattle.place.specs.Order.{insert, inOrder, parts}
-use Rattle.place.specs.Rules.{sound}
-use Rattle.place.specs.Walk.{startOf, countIn, countAt, pointsOf, within, countXAt, countYAt, standing, placeOne, step, allPlaced, start, placement}
+use Rattle.place.specs.Rules.{soundLayout}
+use Rattle.place.specs.Walk.{startOf, countStored, countAt, pointsOf, within, countXAt, countYAt, standing, placeOne, step, allPlaced, start, placement}
 use Rattle.place.specs.declared.order.Entry.{Entry}
 use Rattle.place.specs.declared.order.Layout.{Layout}
 use Rattle.place.specs.declared.order.Part.{Part}
@@ -126,12 +126,12 @@ module _ (g : Ground) (n : Need) (image : List ℕ) (l : Layout) where
   read-turn most e at m true false h f = tt
   read-turn most e at m false b h f = tt
 
-  read-fine : (most : ℕ) (e : Entry) (at : ℕ) (z : ℤ) → CountInside e at → Counted most e at (countIn most z)
-  unfolding countIn
+  read-fine : (most : ℕ) (e : Entry) (at : ℕ) (z : ℤ) → CountInside e at → Counted most e at (countStored most z)
+  unfolding countStored
   read-fine most e at (pos m) h = read-turn most e at m (leb 1 m) (leb m most) h refl
   read-fine most e at (negsuc m) h = tt
 
-  count-turn : (most : ℕ) (e : Entry) (at : ℕ) (z : ℤ) (t : Bool) → inside image (g .base) at (shapeOf (e .kind) .bytes) ≡ t → Counted most e at (cond t (countIn most z) (refused 12))
+  count-turn : (most : ℕ) (e : Entry) (at : ℕ) (z : ℤ) (t : Bool) → inside image (g .base) at (shapeOf (e .kind) .bytes) ≡ t → Counted most e at (cond t (countStored most z) (refused 12))
   count-turn most e at z true h = read-fine most e at z h
   count-turn most e at z false h = tt
 
@@ -240,4 +240,4 @@ module _ (g : Ground) (n : Need) (image : List ℕ) (l : Layout) where
 
   pub placement-holds : HeldIn (l .nx .present) (l .ny .present) (placement g n image l)
   unfolding placement
-  placement-holds = placed-turn (sound n l) (within (n .x)) (within (n .y)) refl refl
+  placement-holds = placed-turn (soundLayout n l) (within (n .x)) (within (n .y)) refl refl

@@ -14,7 +14,7 @@ use Rattle.cell.specs.Kind.{shapeOf}
 use Rattle.cell.specs.declared.kind.Shape.{Shape}
 use Rattle.cell.proofs.Shapes.{bytes-of}
 use Rattle.place.specs.Inside.{inside}
-use Rattle.place.specs.Judge.{bytesOf, elements, allInside, weighed, after, judged}
+use Rattle.place.specs.Judge.{bytesOf, elementsStored, allInside, weighed, after, judgedObject}
 use Rattle.place.specs.Told.{toldPlaced}
 use Rattle.place.specs.Walk.{placement}
 use Rattle.place.specs.declared.judge.Standing.{Standing}
@@ -45,8 +45,8 @@ pub low-one : (a : ℕ) → a < 65536 → a ≤ 2 ^ 32
 low-one a f = omega arith
 
 pub sum-is : (n : Need) (p : Places) (x y v : ℕ) → x ≡ cond (n .x .stored) (p .cx) 0 → y ≡ cond (n .y .stored) (p .cy) 0 → v ≡ cond (n .values) (p .cx * p .cy) 0
-    → x + y + v ≡ elements n p
-unfolding elements
+    → x + y + v ≡ elementsStored n p
+unfolding elementsStored
 sum-is n p x y v ex ey ev = rw (ex, ey, ev)
 
 module _ (cx cy x y v : ℕ) (hx : cx < 65536) (hy : cy < 65536) (lx : x ≤ cx) (ly : y ≤ cy) where
@@ -65,7 +65,7 @@ pub all-inside : (image : List ℕ) (base : ℕ) (n : Need) (l : Layout) (p : Pl
 unfolding allInside
 all-inside image base n l p a b c x y v ex ey ev ea eb ec = rw (ea, eb, ec, ex, ey, ev)
 
-module _ (image : List ℕ) (base : ℕ) (n : Need) (l : Layout) (used : ℕ) (p : Places) (e : ℕ) (q : e ≡ elements n p) where
+module _ (image : List ℕ) (base : ℕ) (n : Need) (l : Layout) (used : ℕ) (p : Places) (e : ℕ) (q : e ≡ elementsStored n p) where
   pub weigh-over : 4096 < used + e → refused 8 ≡ weighed image base n l used p
   unfolding weighed
   weigh-over h = rw (← q, lt-leb (used + e) 4096 h)
@@ -82,12 +82,12 @@ module _ (image : List ℕ) (base : ℕ) (n : Need) (l : Layout) (used : ℕ) (p
 pub ruleset weights = (weigh-over, weigh-fine, weigh-out, needs)
 
 module _ (image : List ℕ) (g : Ground) (n : Need) (l : Layout) (used : ℕ) (r : Placed) (q : toldPlaced r ≡ placement g n image l) where
-  pub judged-at : (s : Reached) (j : Answer Standing) → r ≡ place.At s → j ≡ weighed image (g .base) n l used (s .places) → j ≡ judged image g n l used
-  unfolding judged
+  pub judged-at : (s : Reached) (j : Answer Standing) → r ≡ place.At s → j ≡ weighed image (g .base) n l used (s .places) → j ≡ judgedObject image g n l used
+  unfolding judgedObject
   judged-at s j e f = rw (← q, e, f)
 
-  pub judged-no : (k : ℕ) → r ≡ place.Refused k → refused k ≡ judged image g n l used
-  unfolding judged
+  pub judged-no : (k : ℕ) → r ≡ place.Refused k → refused k ≡ judgedObject image g n l used
+  unfolding judgedObject
   judged-no k e = rw (← q, e)
 
 pub ruleset judgements = (judged-at, judged-no, needs)

@@ -20,8 +20,8 @@ unfoldable pub bytesOf : Entry → ℕ → ℕ
 bytesOf e count = shapeOf (e .kind) .bytes * count
 
 -- The x points, y points and values that the object stores; stored counts are no elements.
-unfoldable pub elements : Need → Places → ℕ
-elements n p = cond (n .x .stored) (p .cx) 0 + cond (n .y .stored) (p .cy) 0 + cond (n .values) (p .cx * p .cy) 0
+unfoldable pub elementsStored : Need → Places → ℕ
+elementsStored n p = cond (n .x .stored) (p .cx) 0 + cond (n .y .stored) (p .cy) 0 + cond (n .values) (p .cx * p .cy) 0
 
 -- Every element's bytes are bytes of the image.
 unfoldable pub allInside : List ℕ → ℕ → Need → Layout → Places → Bool
@@ -33,13 +33,13 @@ allInside image base n l p =
 -- "4,096 elements in all objects" (else 8), with those of the objects before; then "a byte outside the image" (12)
 unfoldable pub weighed : List ℕ → ℕ → Need → Layout → ℕ → Places → Answer Standing
 weighed image base n l used p =
-    cond (leb (used + elements n p) 4096)
-    (cond (allInside image base n l p) (given (record { places = p; total = used + elements n p })) (refused 12))
+    cond (leb (used + elementsStored n p) 4096)
+    (cond (allInside image base n l p) (given (record { places = p; total = used + elementsStored n p })) (refused 12))
     (refused 8)
 
 abbrev pub after : List ℕ → Ground → Need → Layout → ℕ → Answer Reached → Answer Standing
 after image g n l used (given s) = weighed image (g .base) n l used (s .places)
 after image g n l used (refused k) = refused k
 
-unfoldable pub judged : List ℕ → Ground → Need → Layout → ℕ → Answer Standing
-judged image g n l used = after image g n l used (placement g n image l)
+unfoldable pub judgedObject : List ℕ → Ground → Need → Layout → ℕ → Answer Standing
+judgedObject image g n l used = after image g n l used (placement g n image l)

@@ -36,12 +36,12 @@ matching n l =
     && (n .x .stored || not (l .nx .present)) && (n .y .stored || not (l .ny .present))
 
 -- "A count part comes before its axis and before the values."
-unfoldable pub before : Entry → Entry → Bool
-before p q = not (both p q) || ltb (p .position) (q .position)
+unfoldable pub comesBefore : Entry → Entry → Bool
+comesBefore p q = not (both p q) || ltb (p .position) (q .position)
 
 unfoldable pub counted : Layout → Bool
-counted l = before (l .nx) (l .x) && before (l .nx) (l .values) && before (l .ny) (l .y) && before (l .ny) (l .values)
+counted l = comesBefore (l .nx) (l .x) && comesBefore (l .nx) (l .values) && comesBefore (l .ny) (l .y) && comesBefore (l .ny) (l .values)
 
 -- "layout breaks the rules of place, or lacks a part its object needs" (11) where this is false
-unfoldable pub sound : Need → Layout → Bool
-sound n l = matching n l && distinct l && counted l
+unfoldable pub soundLayout : Need → Layout → Bool
+soundLayout n l = matching n l && distinct l && counted l

@@ -11,7 +11,7 @@ use Rattle.cell.specs.declared.kind.Shape.{Shape}
 use Rattle.place.specs.Align.{alignment, aligned}
 use Rattle.place.specs.Inside.{inside}
 use Rattle.place.specs.Order.{inOrder, parts}
-use Rattle.place.specs.Rules.{sound}
+use Rattle.place.specs.Rules.{soundLayout}
 use Rattle.place.specs.declared.order.Layout.{Layout}
 use Rattle.place.specs.declared.order.Role.{Role}
 use Rattle.place.specs.declared.order.Role.the-variants.{Values, PointsX, PointsY, CountX, CountY}
@@ -27,15 +27,15 @@ unfoldable pub startOf : ℕ → Reached → ℕ
 startOf align s = cond (s .any) (aligned align (s .free)) (s .free)
 
 -- "A stored count is 1 to MaxAxisPoints" (else 13)
-unfoldable pub countIn : ℕ → ℤ → Answer ℕ
-countIn most (pos n) = cond (leb 1 n && leb n most) (given n) (refused 13)
-countIn most (negsuc n) = refused 13
+unfoldable pub countStored : ℕ → ℤ → Answer ℕ
+countStored most (pos n) = cond (leb 1 n && leb n most) (given n) (refused 13)
+countStored most (negsuc n) = refused 13
 
 -- The count that stands at an address: read by its data type, in the object's byte order, with no mask; 12 where a byte of it is outside the image.
 unfoldable pub countAt : List ℕ → Ground → ℕ → ℕ → ℕ → Answer ℕ
 countAt image g kind at most =
     cond (inside image (g .base) at (shapeOf kind .bytes))
-    (countIn most (rawAt (g .first) (at - g .base) (shapeOf kind) 0 image))
+    (countStored most (rawAt (g .first) (at - g .base) (shapeOf kind) 0 image))
     (refused 12)
 
 -- "With no stored count the count is MaxAxisPoints; for COM_AXIS it is that of the AXIS_PTS named"
@@ -103,7 +103,7 @@ start g n =
 -- "each object's layout .. (11), counts (12, 13)": where the parts stand in order of Position
 unfoldable pub placement : Ground → Need → List ℕ → Layout → Answer Reached
 placement g n image l =
-    cond (sound n l)
+    cond (soundLayout n l)
     (cond (within (n .x) && within (n .y)) (allPlaced g n image (given (start g n)) (inOrder (parts l))) (refused 13))
     (refused 11)
 

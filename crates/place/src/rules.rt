@@ -1,6 +1,6 @@
 // The rules of place that a layout keeps.
 ghost use mathlib.Core.Path.{_≡_};
-ghost use Rattle.place.specs.Rules.{apart, before, distinct, counted, same, matching, sound};
+ghost use Rattle.place.specs.Rules.{apart, comesBefore, distinct, counted, same, matching, soundLayout};
 use crate::order::Entry;
 use crate::order::Layout;
 
@@ -33,7 +33,7 @@ fn are_apart(p: Entry, q: Entry) -> bool
 
 // Of two parts that both stand, the first comes before.
 fn is_before(p: Entry, q: Entry) -> bool
-    ensures { λ r. ⌜ r ≡ before p q ⌝ }
+    ensures { λ r. ⌜ r ≡ comesBefore p q ⌝ }
 {
     if p.present {
         if q.present {
@@ -99,7 +99,7 @@ fn are_matching(n: Need, l: Layout) -> bool
 
 // Whether a layout keeps the rules of place for its object.
 pub fn is_sound(n: Need, l: Layout) -> bool
-    ensures { λ r. ⌜ r ≡ sound n l ⌝ }
+    ensures { λ r. ⌜ r ≡ soundLayout n l ⌝ }
 {
     are_matching(n, l) & all_apart(l) & are_counted(l)
 }

@@ -15,7 +15,7 @@ use Rattle.grammar.specs.Move.{View, viewIn}
 use Rattle.grammar.specs.Parameter.{find, foundAt}
 use Rattle.grammar.specs.declared.names.Found.{Found}
 use Rattle.grammar.specs.declared.names.Found.the-variants as found
-use Rattle.refer.specs.Refer.{innerRows, rows, row, isFree, isOf, leads, judged, failing, leastFrom, leastOf, leastIn, stopped, sooner, referred, told}
+use Rattle.refer.specs.Refer.{innerRows, referenceRows, row, isFree, isOf, leads, judgedReference, failing, leastFrom, leastOf, leastIn, stopped, sooner, referred, toldReference}
 use Rattle.refer.specs.declared.Row.{Row}
 use Rattle.refer.specs.declared.Reference.{Reference}
 use Rattle.refer.specs.declared.Reference.the-variants as variant
@@ -27,7 +27,7 @@ free-is x f a e m q p r = rw (p, r)
 pub ruleset frees = (free-is, needs)
 
 module _ (x : List ℕ) (v : View) (r : Row) (a e : ℕ) where
-  pub refer-free : isFree x (r .free) a e ≡ true → given tt ≡ judged x v r a e
+  pub refer-free : isFree x (r .free) a e ≡ true → given tt ≡ judgedReference x v r a e
   unfolding leads
   refer-free h = rw h
 
@@ -37,15 +37,15 @@ module _ (x : List ℕ) (v : View) (r : Row) (a e : ℕ) where
     unfolding leads
     leads-is w y = rw h (ap (isOf v (r .target) (r .class)) (sym p ∙ ap foundAt y))
 
-    pub refer-none : f ≡ found.Nothing → refused 7 a ≡ judged x v r a e
+    pub refer-none : f ≡ found.Nothing → refused 7 a ≡ judgedReference x v r a e
     refer-none y = rw (leads-is found.Nothing y)
 
     -- s is the class of the record that was found
     module _ (i : ℕ) (y : f ≡ found.At i) (s : ℕ) (ps : s ≡ v .slots (r .target) i 3) where
-      pub refer-right : (eqb (r .class) 0 || eqb s (r .class)) ≡ true → given tt ≡ judged x v r a e
+      pub refer-right : (eqb (r .class) 0 || eqb s (r .class)) ≡ true → given tt ≡ judgedReference x v r a e
       refer-right t = rw (leads-is (found.At i) y, ← ps, t)
 
-      pub refer-wrong : (eqb (r .class) 0 || eqb s (r .class)) ≡ false → refused 7 a ≡ judged x v r a e
+      pub refer-wrong : (eqb (r .class) 0 || eqb s (r .class)) ≡ false → refused 7 a ≡ judgedReference x v r a e
       refer-wrong t = rw (leads-is (found.At i) y, ← ps, t)
 
 pub ruleset refers = (refer-free, refer-none, refer-right, refer-wrong, via, needs)
@@ -67,9 +67,9 @@ module _ (x : List ℕ) (v : View) (r : Row) (i a e : ℕ) (pa : a ≡ v .slots 
       turn true y = rw (by-lead true y, le-ltb (length x) (length x) (omega arith))
       turn false y = rw (by-lead false y, le-ltb a (length x) l)
 
-    pub reference-is : a < length x → (q : Reference) → told q ≡ judged x v r a e → told q ≡ stopped x (failing x v r i)
+    pub reference-is : a < length x → (q : Reference) → toldReference q ≡ judgedReference x v r a e → toldReference q ≡ stopped x (failing x v r i)
     reference-is l q p = p ∙ turn (leads x v r a e) refl where
-      turn : (t : Bool) → leads x v r a e ≡ t → judged x v r a e ≡ stopped x (failing x v r i)
+      turn : (t : Bool) → leads x v r a e ≡ t → judgedReference x v r a e ≡ stopped x (failing x v r i)
       turn true y = rw (y, by-lead true y, le-ltb (length x) (length x) (omega arith))
       turn false y = rw (y, by-lead false y, lt-ltb a (length x) l)
 
@@ -77,17 +77,17 @@ pub ruleset references = (reference-none, reference-past, reference-is, needs)
 
 -- the sooner of two, by the branches of the code
 module _ (a b : Reference) where
-  pub sooner-fine : a ≡ variant.Fine → told b ≡ sooner (told a) (told b)
+  pub sooner-fine : a ≡ variant.Fine → toldReference b ≡ sooner (toldReference a) (toldReference b)
   sooner-fine y = rw y
 
   module _ (n p : ℕ) (y : a ≡ variant.Refused n p) where
-    pub sooner-one : b ≡ variant.Fine → refused n p ≡ sooner (told a) (told b)
+    pub sooner-one : b ≡ variant.Fine → refused n p ≡ sooner (toldReference a) (toldReference b)
     sooner-one z = rw (y, z)
 
-    pub sooner-second : (m q : ℕ) → b ≡ variant.Refused m q → q < p → refused m q ≡ sooner (told a) (told b)
+    pub sooner-second : (m q : ℕ) → b ≡ variant.Refused m q → q < p → refused m q ≡ sooner (toldReference a) (toldReference b)
     sooner-second m q z l = rw (y, z, lt-ltb q p l)
 
-    pub sooner-first : (m q : ℕ) → b ≡ variant.Refused m q → p ≤ q → refused n p ≡ sooner (told a) (told b)
+    pub sooner-first : (m q : ℕ) → b ≡ variant.Refused m q → p ≤ q → refused n p ≡ sooner (toldReference a) (toldReference b)
     sooner-first m q z l = rw (y, z, le-ltb q p l)
 
 pub ruleset sooners = (sooner-fine, sooner-one, sooner-second, sooner-first, needs)
@@ -105,21 +105,21 @@ both x p q = turn (ltb p (length x)) (ltb q (length x)) (ltb q p) refl refl refl
 -- the first by place of the records from i on
 pub record Lessening (x : List ℕ) (v : View) (r : Row) (i : ℕ) (first : Reference) : Type 0 where
   pub within : i ≤ v .counts (r .sec)
-  pub is : told first ≡ stopped x (leastFrom (v .counts (r .sec) - i) x v r i)
+  pub is : toldReference first ≡ stopped x (leastFrom (v .counts (r .sec) - i) x v r i)
 
 module _ (x : List ℕ) (v : View) (r : Row) where
   pub less-start : (i : ℕ) → i ≡ v .counts (r .sec) → Lessening x v r i variant.Fine
   unfolding leastFrom
   less-start i p = let z : v .counts (r .sec) - i ≡ 0 = omega arith in record { within = omega arith; is = rw (z, le-ltb (length x) (length x) (omega arith)) }
 
-  pub less-on : (i : ℕ) (first one : Reference) → Lessening x v r i first → 0 < i → told one ≡ stopped x (failing x v r (i - 1)) → (m : Reference) → told m ≡ sooner (told one) (told first) → Lessening x v r (i - 1) m
+  pub less-on : (i : ℕ) (first one : Reference) → Lessening x v r i first → 0 < i → toldReference one ≡ stopped x (failing x v r (i - 1)) → (m : Reference) → toldReference m ≡ sooner (toldReference one) (toldReference first) → Lessening x v r (i - 1) m
   unfolding leastFrom
   less-on i first one q h p m y =
       let z : v .counts (r .sec) - (i - 1) ≡ suc (v .counts (r .sec) - i) = omega (arith, q .within) in
       let s : suc (i - 1) ≡ i = omega arith in
       record { within = omega (arith, q .within); is = y ∙ rw (p, q .is, z, s) (both x (failing x v r (i - 1)) (leastFrom (v .counts (r .sec) - i) x v r i)) }
 
-  pub less-end : (i : ℕ) (first : Reference) → Lessening x v r i first → i ≤ 0 → told first ≡ stopped x (leastOf x v r)
+  pub less-end : (i : ℕ) (first : Reference) → Lessening x v r i first → i ≤ 0 → toldReference first ≡ stopped x (leastOf x v r)
   less-end i first q h =
       let z : i ≡ 0 = omega arith in
       let w : v .counts (r .sec) - 0 ≡ v .counts (r .sec) = omega arith in
@@ -128,8 +128,8 @@ module _ (x : List ℕ) (v : View) (r : Row) where
 pub ruleset lessenings = (less-start, less-on, less-end, needs)
 
 -- the first of a row's, or the rest's
-pub with-rest : (x : List ℕ) (v : View) (r : Row) (one rest q : Reference) → told one ≡ stopped x (leastOf x v r) → told q ≡ sooner (told one) (told rest)
-    → told q ≡ sooner (stopped x (leastOf x v r)) (told rest)
+pub with-rest : (x : List ℕ) (v : View) (r : Row) (one rest q : Reference) → toldReference one ≡ stopped x (leastOf x v r) → toldReference q ≡ sooner (toldReference one) (toldReference rest)
+    → toldReference q ≡ sooner (stopped x (leastOf x v r)) (toldReference rest)
 with-rest x v r one rest q p y = y ∙ rw p
 
 pub ruleset withs = (with-rest, needs)
@@ -140,18 +140,18 @@ module _ (x t : List ℕ) where
   v = viewIn t
 
   -- a row before others, of which the first by place is at m
-  row-on : (r : Row) (m : ℕ) (q rest : Reference) → told rest ≡ stopped x m → told q ≡ sooner (stopped x (leastOf x v r)) (told rest) → told q ≡ stopped x (min (leastOf x v r) m)
+  row-on : (r : Row) (m : ℕ) (q rest : Reference) → toldReference rest ≡ stopped x m → toldReference q ≡ sooner (stopped x (leastOf x v r)) (toldReference rest) → toldReference q ≡ stopped x (min (leastOf x v r) m)
   row-on r m q rest p y = y ∙ rw p (both x (leastOf x v r) m)
 
-  row-last : (r : Row) (q : Reference) → told q ≡ stopped x (leastOf x v r) → told q ≡ stopped x (min (leastOf x v r) (length x))
+  row-last : (r : Row) (q : Reference) → toldReference q ≡ stopped x (leastOf x v r) → toldReference q ≡ stopped x (min (leastOf x v r) (length x))
   row-last r q y = y ∙ (alone (stopped x (leastOf x v r)) ∙ both x (leastOf x v r) (length x)) where
     alone : (a : Answer (Unit {0})) → a ≡ sooner a (stopped x (length x))
     alone (given u) = rw (le-ltb (length x) (length x) (omega arith))
     alone (refused n p) = rw (le-ltb (length x) (length x) (omega arith))
 
-  pub inner-is : (g f e d : Reference) (r₁ r₂ r₃ r₄ : Row) → r₁ ≡ row 1 26 2 0 0 → told g ≡ stopped x (leastOf x v r₁) → r₂ ≡ row 6 14 5 7 0 → told f ≡ sooner (stopped x (leastOf x v r₂)) (told g)
-      → r₃ ≡ row 6 4 1 0 1 → told e ≡ sooner (stopped x (leastOf x v r₃)) (told f) → r₄ ≡ row 6 2 5 10 2 → told d ≡ sooner (stopped x (leastOf x v r₄)) (told e)
-      → told d ≡ stopped x (leastIn x v innerRows)
+  pub inner-is : (g f e d : Reference) (r₁ r₂ r₃ r₄ : Row) → r₁ ≡ row 1 26 2 0 0 → toldReference g ≡ stopped x (leastOf x v r₁) → r₂ ≡ row 6 14 5 7 0 → toldReference f ≡ sooner (stopped x (leastOf x v r₂)) (toldReference g)
+      → r₃ ≡ row 6 4 1 0 1 → toldReference e ≡ sooner (stopped x (leastOf x v r₃)) (toldReference f) → r₄ ≡ row 6 2 5 10 2 → toldReference d ≡ sooner (stopped x (leastOf x v r₄)) (toldReference e)
+      → toldReference d ≡ stopped x (leastIn x v innerRows)
   unfolding innerRows
   inner-is g f e d r₁ r₂ r₃ r₄ p₁ q₁ p₂ q₂ p₃ q₃ p₄ q₄ =
       row-on (row 6 2 5 10 2) _ d e
@@ -162,10 +162,10 @@ module _ (x t : List ℕ) where
       (rw p₃ at q₃))
       (rw p₄ at q₄)
 
-  pub rows-is : (d c b a : Reference) (r₁ r₂ r₃ : Row) → told d ≡ stopped x (leastIn x v innerRows) → r₁ ≡ row 5 10 5 10 2 → told c ≡ sooner (stopped x (leastOf x v r₁)) (told d)
-      → r₂ ≡ row 5 8 1 0 1 → told b ≡ sooner (stopped x (leastOf x v r₂)) (told c) → r₃ ≡ row 5 6 4 0 0 → told a ≡ sooner (stopped x (leastOf x v r₃)) (told b)
-      → told a ≡ referred x v
-  unfolding referred rows
+  pub rows-is : (d c b a : Reference) (r₁ r₂ r₃ : Row) → toldReference d ≡ stopped x (leastIn x v innerRows) → r₁ ≡ row 5 10 5 10 2 → toldReference c ≡ sooner (stopped x (leastOf x v r₁)) (toldReference d)
+      → r₂ ≡ row 5 8 1 0 1 → toldReference b ≡ sooner (stopped x (leastOf x v r₂)) (toldReference c) → r₃ ≡ row 5 6 4 0 0 → toldReference a ≡ sooner (stopped x (leastOf x v r₃)) (toldReference b)
+      → toldReference a ≡ referred x v
+  unfolding referred referenceRows
   rows-is d c b a r₁ r₂ r₃ p₀ p₁ q₁ p₂ q₂ p₃ q₃ =
       row-on (row 5 6 4 0 0) _ a b
       (row-on (row 5 8 1 0 1) _ b c

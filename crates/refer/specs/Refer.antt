@@ -28,8 +28,8 @@ innerRows =
     ∷ row method 26 table 0 0
     ∷ []
 
-unfoldable pub rows : List Row
-rows =
+unfoldable pub referenceRows : List Row
+referenceRows =
     row object 6 layout 0 0
     ∷ row object 8 method 0 1
     ∷ row object 10 object MEASUREMENT 2
@@ -49,8 +49,8 @@ unfoldable pub leads : List ℕ → View → Row → ℕ → ℕ → Bool
 leads x v r a e = isFree x (r .free) a e || isOf v (r .target) (r .class) (find x v (r .target) a e)
 
 -- a reference that leads nowhere is 7 at its first byte
-abbrev pub judged : List ℕ → View → Row → ℕ → ℕ → Answer (Unit {0})
-judged x v r a e = cond (leads x v r a e) (given tt) (refused 7 a)
+abbrev pub judgedReference : List ℕ → View → Row → ℕ → ℕ → Answer (Unit {0})
+judgedReference x v r a e = cond (leads x v r a e) (given tt) (refused 7 a)
 
 -- the place of record i's reference where it leads nowhere, and else the text's length; a reference that is not there has the end 0
 unfoldable pub failing : List ℕ → View → Row → ℕ → ℕ
@@ -77,7 +77,7 @@ stopped x p = cond (ltb p (length x)) (refused 7 p) (given tt)
 
 -- every reference leads somewhere, or 7 at the first that does not
 unfoldable pub referred : List ℕ → View → Answer (Unit {0})
-referred x v = stopped x (leastIn x v rows)
+referred x v = stopped x (leastIn x v referenceRows)
 
 -- the earlier of two refusals, or the one that there is
 abbrev pub sooner : Answer (Unit {0}) → Answer (Unit {0}) → Answer (Unit {0})
@@ -86,6 +86,6 @@ sooner (refused n p) (given u) = refused n p
 sooner (given u) b = b
 
 -- what `Reference` answers
-abbrev pub told : Reference → Answer (Unit {0})
-told variant.Fine = given tt
-told (variant.Refused n p) = refused n p
+abbrev pub toldReference : Reference → Answer (Unit {0})
+toldReference variant.Fine = given tt
+toldReference (variant.Refused n p) = refused n p

@@ -11,7 +11,7 @@ use grammar::view::slot_of;
 use text::bytes::same_part;
 ghost use mathlib.Core.Path.{_≡_};
 ghost use Rattle.grammar.specs.Move.{viewIn};
-ghost use Rattle.refer.specs.Refer.{innerRows, row, isFree, judged, failing, leastOf, leastIn, stopped, sooner, referred, told};
+ghost use Rattle.refer.specs.Refer.{innerRows, row, isFree, judgedReference, failing, leastOf, leastIn, stopped, sooner, referred, toldReference};
 
 // Every reference leads somewhere, or the refusal of the first that does not.
 pub enum Reference {
@@ -52,7 +52,7 @@ fn is_free(x: &[u8], free: u8, a: usize, e: usize) -> bool
 
 // What the name from a up to e leads to: a record of the right class, or refusal 7 at its first byte.
 fn refer(x: &[u8], t: &[u64], r: Row, a: usize, e: usize) -> Reference
-    ensures { λ q. ⌜ told q ≡ judged (now (x .entry)) (viewIn (now (t .entry))) r a e ⌝ }
+    ensures { λ q. ⌜ toldReference q ≡ judgedReference (now (x .entry)) (viewIn (now (t .entry))) r a e ⌝ }
 {
     if is_free(x, r.free, a, e) {
         return Reference::Fine;
@@ -68,7 +68,7 @@ fn refer(x: &[u8], t: &[u64], r: Row, a: usize, e: usize) -> Reference
 
 // What record i's reference leads to; one that is not there, its end 0, or not in the text is fine.
 fn reference_of(x: &[u8], t: &[u64], r: Row, i: u16) -> Reference
-    ensures { λ q. ⌜ told q ≡ stopped (now (x .entry)) (failing (now (x .entry)) (viewIn (now (t .entry))) r i) ⌝ }
+    ensures { λ q. ⌜ toldReference q ≡ stopped (now (x .entry)) (failing (now (x .entry)) (viewIn (now (t .entry))) r i) ⌝ }
 {
     let k = r.slot as u16;
     let a = slot_of(t, r.sec, i, k) as usize;
@@ -84,7 +84,7 @@ fn reference_of(x: &[u8], t: &[u64], r: Row, i: u16) -> Reference
 
 // The earlier of two refusals, or the one that there is.
 fn sooner_of(a: Reference, b: Reference) -> Reference
-    ensures { λ q. ⌜ told q ≡ sooner (told a) (told b) ⌝ }
+    ensures { λ q. ⌜ toldReference q ≡ sooner (toldReference a) (toldReference b) ⌝ }
 {
     let Reference::Refused { no: _, place: p } = a else {
         return b;
@@ -97,7 +97,7 @@ fn sooner_of(a: Reference, b: Reference) -> Reference
 
 // The first by place of a row's references that lead nowhere.
 fn first_of(x: &[u8], t: &[u64], r: Row) -> Reference
-    ensures { λ q. ⌜ told q ≡ stopped (now (x .entry)) (leastOf (now (x .entry)) (viewIn (now (t .entry))) r) ⌝ }
+    ensures { λ q. ⌜ toldReference q ≡ stopped (now (x .entry)) (leastOf (now (x .entry)) (viewIn (now (t .entry))) r) ⌝ }
 {
     let count = count_of(t, r.sec);
     let mut first = Reference::Fine;
@@ -111,14 +111,14 @@ fn first_of(x: &[u8], t: &[u64], r: Row) -> Reference
 
 // The same, or the rest's where that is earlier.
 fn first_with(x: &[u8], t: &[u64], r: Row, rest: Reference) -> Reference
-    ensures { λ q. ⌜ told q ≡ sooner (stopped (now (x .entry)) (leastOf (now (x .entry)) (viewIn (now (t .entry))) r)) (told rest) ⌝ }
+    ensures { λ q. ⌜ toldReference q ≡ sooner (stopped (now (x .entry)) (leastOf (now (x .entry)) (viewIn (now (t .entry))) r)) (toldReference rest) ⌝ }
 {
     sooner_of(first_of(x, t, r), rest)
 }
 
 // The first by place of the references of axes and methods that lead nowhere.
 fn first_inside(x: &[u8], t: &[u64]) -> Reference
-    ensures { λ q. ⌜ told q ≡ stopped (now (x .entry)) (leastIn (now (x .entry)) (viewIn (now (t .entry))) innerRows) ⌝ }
+    ensures { λ q. ⌜ toldReference q ≡ stopped (now (x .entry)) (leastIn (now (x .entry)) (viewIn (now (t .entry))) innerRows) ⌝ }
 {
     let g = first_of(x, t, row_of(METHOD, 26, TABLE, 0, 0));
     let f = first_with(x, t, row_of(AXIS, 14, OBJECT, 7, 0), g);
@@ -128,7 +128,7 @@ fn first_inside(x: &[u8], t: &[u64]) -> Reference
 
 // Judges every reference of the records: the first by place that leads nowhere stops the load.
 pub fn refer_all(x: &[u8], t: &[u64]) -> Reference
-    ensures { λ q. ⌜ told q ≡ referred (now (x .entry)) (viewIn (now (t .entry))) ⌝ }
+    ensures { λ q. ⌜ toldReference q ≡ referred (now (x .entry)) (viewIn (now (t .entry))) ⌝ }
 {
     let d = first_inside(x, t);
     let c = first_with(x, t, row_of(OBJECT, 10, OBJECT, 10, 2), d);

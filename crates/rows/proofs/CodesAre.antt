@@ -4,7 +4,7 @@ use mathlib.Core.Path.{_≡_, refl}
 use mathlib.Core.List.{List, [], _∷_, map}
 use Rattle.words.specs.Kind.{Kind, takenBlock, takenPlain, takenChoice, skippedPlain}
 use Rattle.words.specs.Row.{word, bytes, same, kindIn}
-use Rattle.words.specs.Table.{rows}
+use Rattle.words.specs.Table.{wordRows}
 use Rattle.words.specs.Class.{classOf}
 use Rattle.rows.specs.Codes.{PROJECT, MODULE, MOD-COMMON, COMPU-METHOD, COMPU-VTAB, RECORD-LAYOUT, AXIS-PTS, CHARACTERISTIC, AXIS-DESCR, MEASUREMENT, COEFFS-LINEAR, COEFFS, COMPU-TAB-REF, AXIS-PTS-REF, NUMBER, ECU-ADDRESS, FNC-VALUES, AXIS-PTS-X, AXIS-PTS-Y, NO-AXIS-PTS-X, NO-AXIS-PTS-Y, BYTE-ORDER, ALIGNMENT-BYTE, ALIGNMENT-WORD, ALIGNMENT-LONG, BIT-MASK, READ-ONLY, DEFAULT-VALUE, FORMAT, DISPLAY-IDENTIFIER, PHYS-UNIT, ASAP2-VERSION, A2ML-VERSION, UBYTE, SLONG, MSB-FIRST, MSB-LAST, ROW-DIR, COLUMN-DIR, INDEX-INCR, INDEX-DECR, DIRECT, VALUE, VAL-BLK, CURVE, MAP, IDENTICAL, LINEAR, RAT-FUNC, TAB-VERB, STD-AXIS, COM-AXIS}
 
@@ -65,5 +65,5 @@ codes =
     ∷ []
 
 each-code : map (λ c. classOf (bytes (c .0))) codes ≡ map (λ c. c .1) codes
-unfolding classOf kindIn same rows word bytes
+unfolding classOf kindIn same wordRows word bytes
 each-code = refl

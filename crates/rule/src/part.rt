@@ -25,7 +25,7 @@ use tables::group::x_of;
 use tables::group::y_of;
 ghost use mathlib.Core.Path.{_≡_};
 ghost use Rattle.tables.specs.Form.{tablesIn};
-ghost use Rattle.tables.specs.Rule.{noPart, pointsRule, counterRule, axisRule, valuesRule, limitsRule, bytesRule, roleRule, partRule, groupRule};
+ghost use Rattle.tables.specs.Rule.{isNoPart, pointsRule, counterRule, axisRule, valuesRule, limitsRule, bytesRule, roleRule, partRule, groupRule};
 
 // "4,096 elements in all objects", and the most points of an axis.
 const MOST_POINTS: u16 = 4096;
@@ -41,7 +41,7 @@ const UPPER: u16 = 14;
 
 // Whether a part that is not stored has zeros alone.
 fn is_none(t: &[u64], g: u16) -> bool
-    ensures { λ r. ⌜ r ≡ noPart (tablesIn (now (t .entry))) g ⌝ }
+    ensures { λ r. ⌜ r ≡ isNoPart (tablesIn (now (t .entry))) g ⌝ }
 {
     has_zeros(t, GROUP, g, 0, WIDTH)
 }

@@ -18,7 +18,7 @@ use tables::group::elements_of;
 use tables::group::total_of;
 ghost use mathlib.Core.Path.{_≡_};
 ghost use Prim.Native.Nat.{ℕ};
-ghost use Rattle.tables.specs.Form.{tablesIn, object, group, method, table, entry};
+ghost use Rattle.tables.specs.Form.{tablesIn, objectSection, groupSection, methodSection, tableSection, entrySection};
 ghost use Rattle.tables.specs.Group.{sumBelow, elements};
 ghost use Rattle.tables.specs.Rule.{allBelow, objectRule, groupRule, methodRule, tableRule, entryRule, headRule, ruled, keepsRule};
 
@@ -27,7 +27,7 @@ const MOST_ELEMENTS: u64 = 4096;
 
 // Whether every object keeps the rule.
 fn keep_objects(t: &[u64], n: usize) -> bool
-    ensures { λ r. ⌜ r ≡ allBelow (tablesIn (now (t .entry)) .counts object) (objectRule (tablesIn (now (t .entry))) n) ⌝ }
+    ensures { λ r. ⌜ r ≡ allBelow (tablesIn (now (t .entry)) .counts objectSection) (objectRule (tablesIn (now (t .entry))) n) ⌝ }
 {
     let count = count_of(t, OBJECT);
     let mut i: u16 = 0;
@@ -43,7 +43,7 @@ fn keep_objects(t: &[u64], n: usize) -> bool
 
 // Whether every group keeps the rule.
 fn keep_groups(t: &[u64], m: usize) -> bool
-    ensures { λ r. ⌜ r ≡ allBelow (tablesIn (now (t .entry)) .counts group) (λ (g : ℕ). groupRule (tablesIn (now (t .entry))) g m) ⌝ }
+    ensures { λ r. ⌜ r ≡ allBelow (tablesIn (now (t .entry)) .counts groupSection) (λ (g : ℕ). groupRule (tablesIn (now (t .entry))) g m) ⌝ }
 {
     let count = count_of(t, GROUP);
     let mut g: u16 = 0;
@@ -59,7 +59,7 @@ fn keep_groups(t: &[u64], m: usize) -> bool
 
 // Whether every method keeps the rule.
 fn keep_methods(t: &[u64]) -> bool
-    ensures { λ r. ⌜ r ≡ allBelow (tablesIn (now (t .entry)) .counts method) (methodRule (tablesIn (now (t .entry)))) ⌝ }
+    ensures { λ r. ⌜ r ≡ allBelow (tablesIn (now (t .entry)) .counts methodSection) (methodRule (tablesIn (now (t .entry)))) ⌝ }
 {
     let count = count_of(t, METHOD);
     let mut i: u16 = 0;
@@ -75,7 +75,7 @@ fn keep_methods(t: &[u64]) -> bool
 
 // Whether every verbal table keeps the rule.
 fn keep_tables(t: &[u64], n: usize) -> bool
-    ensures { λ r. ⌜ r ≡ allBelow (tablesIn (now (t .entry)) .counts table) (tableRule (tablesIn (now (t .entry))) n) ⌝ }
+    ensures { λ r. ⌜ r ≡ allBelow (tablesIn (now (t .entry)) .counts tableSection) (tableRule (tablesIn (now (t .entry))) n) ⌝ }
 {
     let count = count_of(t, TABLE);
     let mut i: u16 = 0;
@@ -91,7 +91,7 @@ fn keep_tables(t: &[u64], n: usize) -> bool
 
 // Whether every entry keeps the rule.
 fn keep_entries(t: &[u64], n: usize) -> bool
-    ensures { λ r. ⌜ r ≡ allBelow (tablesIn (now (t .entry)) .counts entry) (entryRule (tablesIn (now (t .entry))) n) ⌝ }
+    ensures { λ r. ⌜ r ≡ allBelow (tablesIn (now (t .entry)) .counts entrySection) (entryRule (tablesIn (now (t .entry))) n) ⌝ }
 {
     let count = count_of(t, ENTRY);
     let mut i: u16 = 0;
@@ -107,7 +107,7 @@ fn keep_entries(t: &[u64], n: usize) -> bool
 
 // How many elements all groups have.
 fn sum_of(t: &[u64]) -> u64
-    ensures { λ r. ⌜ r ≡ sumBelow (tablesIn (now (t .entry)) .counts group) (elements (tablesIn (now (t .entry)))) ⌝ }
+    ensures { λ r. ⌜ r ≡ sumBelow (tablesIn (now (t .entry)) .counts groupSection) (elements (tablesIn (now (t .entry)))) ⌝ }
 {
     let count = count_of(t, GROUP);
     let mut sum: u64 = 0;

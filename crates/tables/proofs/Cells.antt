@@ -11,46 +11,46 @@ use lib.Seq.{getD-append-add}
 use Rattle.records.specs.Records.{count, widthOf, mostOf}
 use Rattle.records.specs.Cells.{joined, baseIn, room, encode}
 use Rattle.records.proofs.Encode.{Good, count-encode, slot-encode, get-part, zeros, length-joined, fit-wide, fit-few}
-use Rattle.tables.specs.Form.{sections, tablesOf, tablesIn}
+use Rattle.tables.specs.Form.{tableSections, tablesOf, tablesIn}
 use Rattle.tables.specs.Rule.{countFits, unusedZero, formRule, ruled, keepsRule}
 use Rattle.tables.proofs.All.{both, all-of}
 use Rattle.tables.proofs.LoopLaws.{formedAt, clearAt}
 
-pub tables-encode : (n : ℕ) (d : List (List (List ℕ))) → Good sections d → tablesIn (encode sections n d) ≡ tablesOf d
-tables-encode n d g i = record { counts = λ j. count-encode sections n d g j i; slots = λ j a k. slot-encode sections n d g j a k i }
+pub tables-encode : (n : ℕ) (d : List (List (List ℕ))) → Good tableSections d → tablesIn (encode tableSections n d) ≡ tablesOf d
+tables-encode n d g i = record { counts = λ j. count-encode tableSections n d g j i; slots = λ j a k. slot-encode tableSections n d g j a k i }
 
-module _ (n : ℕ) (d : List (List (List ℕ))) (g : Good sections d) (j : ℕ) (l : j < length sections) where
+module _ (n : ℕ) (d : List (List (List ℕ))) (g : Good tableSections d) (j : ℕ) (l : j < length tableSections) where
   -- a section's first cell counts its records
-  first-cell : getD (encode sections n d) (baseIn sections j) 0 ≡ count d j
+  first-cell : getD (encode tableSections n d) (baseIn tableSections j) 0 ≡ count d j
   unfolding encode
-  first-cell = rw (← add-zero (baseIn sections j)) (get-part (replicate (n - room sections) 0) sections d j 0 g l (omega arith))
+  first-cell = rw (← add-zero (baseIn tableSections j)) (get-part (replicate (n - room tableSections) 0) tableSections d j 0 g l (omega arith))
 
   -- the cells past its records are zeros
-  rest-cell : (k : ℕ) → k < widthOf sections j * mostOf sections j - widthOf sections j * count d j
-      → _≡_ {A = ℕ} (getD (encode sections n d) (baseIn sections j + (1 + widthOf sections j * count d j) + k) 0) 0
+  rest-cell : (k : ℕ) → k < widthOf tableSections j * mostOf tableSections j - widthOf tableSections j * count d j
+      → _≡_ {A = ℕ} (getD (encode tableSections n d) (baseIn tableSections j + (1 + widthOf tableSections j * count d j) + k) 0) 0
   unfolding encode
   rest-cell k h =
-      let w : ℕ = widthOf sections j in
-      let f : length (joined (getD d j [])) ≡ widthOf sections j * count d j = length-joined (widthOf sections j) (getD d j []) (fit-wide sections d j g) in
-      let e : baseIn sections j + (1 + widthOf sections j * count d j) + k ≡ baseIn sections j + suc (length (joined (getD d j [])) + k) = omega arith in
+      let w : ℕ = widthOf tableSections j in
+      let f : length (joined (getD d j [])) ≡ widthOf tableSections j * count d j = length-joined (widthOf tableSections j) (getD d j []) (fit-wide tableSections d j g) in
+      let e : baseIn tableSections j + (1 + widthOf tableSections j * count d j) + k ≡ baseIn tableSections j + suc (length (joined (getD d j [])) + k) = omega arith in
       rw e
-      (get-part (replicate (n - room sections) 0) sections d j (suc (length (joined (getD d j [])) + k)) g l (omega arith)
-      ∙ getD-append-add (joined (getD d j [])) (replicate (widthOf sections j * mostOf sections j - widthOf sections j * count d j) 0) k 0
-      ∙ zeros (widthOf sections j * mostOf sections j - widthOf sections j * count d j) k)
+      (get-part (replicate (n - room tableSections) 0) tableSections d j (suc (length (joined (getD d j [])) + k)) g l (omega arith)
+      ∙ getD-append-add (joined (getD d j [])) (replicate (widthOf tableSections j * mostOf tableSections j - widthOf tableSections j * count d j) 0) k 0
+      ∙ zeros (widthOf tableSections j * mostOf tableSections j - widthOf tableSections j * count d j) k)
 
-  count-kept : countFits (encode sections n d) j ≡ true
+  count-kept : countFits (encode tableSections n d) j ≡ true
   unfolding countFits
-  count-kept = rw first-cell (le-leb (count d j) (mostOf sections j) (fit-few sections d j g))
+  count-kept = rw first-cell (le-leb (count d j) (mostOf tableSections j) (fit-few tableSections d j g))
 
-  unused-kept : unusedZero (encode sections n d) j ≡ true
+  unused-kept : unusedZero (encode tableSections n d) j ≡ true
   unfolding unusedZero
-  unused-kept = rw (count-encode sections n d g j)
-      (all-of (widthOf sections j * mostOf sections j - widthOf sections j * count d j) (clearAt (encode sections n d) (baseIn sections j + (1 + widthOf sections j * count d j)))
+  unused-kept = rw (count-encode tableSections n d g j)
+      (all-of (widthOf tableSections j * mostOf tableSections j - widthOf tableSections j * count d j) (clearAt (encode tableSections n d) (baseIn tableSections j + (1 + widthOf tableSections j * count d j)))
       (λ k h. eq-eqb _ 0 (rest-cell k h)))
 
-pub encode-keeps : (n m k : ℕ) (d : List (List (List ℕ))) → Good sections d → room sections ≤ k → ruled (tablesOf d) n m ≡ true → keepsRule n m (encode sections k d) ≡ true
+pub encode-keeps : (n m k : ℕ) (d : List (List (List ℕ))) → Good tableSections d → room tableSections ≤ k → ruled (tablesOf d) n m ≡ true → keepsRule n m (encode tableSections k d) ≡ true
 unfolding keepsRule formRule
 encode-keeps n m k d g h r =
-    both (formRule (encode sections k d)) (ruled (tablesIn (encode sections k d)) n m)
-    (all-of (length sections) (formedAt (encode sections k d)) (λ j l. both (countFits (encode sections k d) j) (unusedZero (encode sections k d) j) (count-kept k d g j l) (unused-kept k d g j l)))
+    both (formRule (encode tableSections k d)) (ruled (tablesIn (encode tableSections k d)) n m)
+    (all-of (length tableSections) (formedAt (encode tableSections k d)) (λ j l. both (countFits (encode tableSections k d) j) (unusedZero (encode tableSections k d) j) (count-kept k d g j l) (unused-kept k d g j l)))
     (rw (tables-encode k d g) r)

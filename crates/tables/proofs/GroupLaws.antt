@@ -17,27 +17,27 @@ use Rattle.convert.specs.declared.method.Coefficients.{Coefficients}
 use Rattle.cell.specs.Kind.{shapeOf}
 use Rattle.cell.proofs.Shapes.{bytes-le}
 use Rattle.records.specs.Cells.{sectionIn, slotIn}
-use Rattle.tables.specs.Form.{sections, group, method, Tables, tablesIn, pastPoints, pastCoefficient, kind, first, place, x, y, wide, high, walk, mask, forbidden, limit, coefficient, coefficients}
+use Rattle.tables.specs.Form.{tableSections, groupSection, methodSection, Tables, tablesIn, pastPoints, pastCoefficient, kind, first, place, x, y, wide, high, walk, mask, forbidden, limit, coefficient, coefficients}
 use Rattle.tables.specs.Group.{position, elements, bytes, placeOf, storageOf, placeBy}
 use Rattle.tables.specs.declared.group.Storage.{Storage}
 
 module _ (t : List ℕ) (g : ℕ) where
-  pub first-is : (v : ℕ) → v ≡ slotIn t (sectionIn sections group) g 1 → eqb v 1 ≡ first (tablesIn t) g
+  pub first-is : (v : ℕ) → v ≡ slotIn t (sectionIn tableSections groupSection) g 1 → eqb v 1 ≡ first (tablesIn t) g
   first-is v p = rw p
 
-  pub forbidden-is : (v : ℕ) → v ≡ slotIn t (sectionIn sections group) g 10 → not (eqb v 0) ≡ forbidden (tablesIn t) g
+  pub forbidden-is : (v : ℕ) → v ≡ slotIn t (sectionIn tableSections groupSection) g 10 → not (eqb v 0) ≡ forbidden (tablesIn t) g
   forbidden-is v p = rw p
 
   -- past a record's numbers there is nothing
-  slot-past : (k : ℕ) → 19 ≤ k → slotIn t (sectionIn sections group) g k ≡ 0
-  unfolding slotIn sections
+  slot-past : (k : ℕ) → 19 ≤ k → slotIn t (sectionIn tableSections groupSection) g k ≡ 0
+  unfolding slotIn tableSections
   slot-past k h = rw (le-ltb k 19 h, and-false)
 
   pub limit-past : (k : ℕ) → 19 ≤ k → _≡_ {A = Scaled} (record { negative = false; whole = 0; tens = 0 }) (limit (tablesIn t) g k)
   limit-past k h = rw (slot-past k h, slot-past (k + 1) (omega arith), slot-past (k + 2) (omega arith))
 
-  pub limit-is : (k s w p q : ℕ) → s ≡ slotIn t (sectionIn sections group) g k → w ≡ slotIn t (sectionIn sections group) g (k + 1)
-      → p ≡ slotIn t (sectionIn sections group) g (k + 2) → q ≡ min p 7 → _≡_ {A = Scaled} (record { negative = eqb s 1; whole = w; tens = q }) (limit (tablesIn t) g k)
+  pub limit-is : (k s w p q : ℕ) → s ≡ slotIn t (sectionIn tableSections groupSection) g k → w ≡ slotIn t (sectionIn tableSections groupSection) g (k + 1)
+      → p ≡ slotIn t (sectionIn tableSections groupSection) g (k + 2) → q ≡ min p 7 → _≡_ {A = Scaled} (record { negative = eqb s 1; whole = w; tens = q }) (limit (tablesIn t) g k)
   limit-is k s w p q a b c d = rw (a, b, d, c)
 
 pub ruleset fields = (first-is, forbidden-is, limit-past, limit-is, needs)
@@ -49,7 +49,7 @@ few-points u = omega arith
 
 -- no group has more elements than this, and their number fits
 pub elements-most : (T : Tables) (g : ℕ) → elements T g ≤ 16785409
-elements-most T g = mul-le-mul (few-points (T .slots group g 3)) (few-points (T .slots group g 4))
+elements-most T g = mul-le-mul (few-points (T .slots groupSection g 3)) (few-points (T .slots groupSection g 4))
 
 module _ (T : Tables) (g a b : ℕ) (p : a ≡ x T g) (q : b ≡ y T g) where
   pub elements-fit : Fits w32 (a * b)
@@ -141,7 +141,7 @@ pub ruleset stores = (stored-is, place-is, needs)
 -- ---- methods
 
 module _ (t : List ℕ) (m : ℕ) where
-  pub coefficient-is : (k s z : ℕ) (r : ℤ) (n : ℕ) → s ≡ slotIn t (sectionIn sections method) m k → z ≡ slotIn t (sectionIn sections method) m (k + 1)
+  pub coefficient-is : (k s z : ℕ) (r : ℤ) (n : ℕ) → s ≡ slotIn t (sectionIn tableSections methodSection) m k → z ≡ slotIn t (sectionIn tableSections methodSection) m (k + 1)
       → n ≡ min z pastCoefficient → r ≡ signedOf (eqb s 1) n → r ≡ coefficient (tablesIn t) m k
   coefficient-is k s z r n a b c d = rw (d, c, a, b)
 

@@ -14,7 +14,7 @@ use lib.ListN.{length, getD, List·getD-eq-default}
 use Rattle.records.specs.Cells.{sectionIn, countIn, slotIn}
 use Rattle.records.specs.declared.Section.{Section}
 use Rattle.records.proofs.OpLaws.{product}
-use Rattle.tables.specs.Form.{sections, object, Tables, tablesIn}
+use Rattle.tables.specs.Form.{tableSections, objectSection, Tables, tablesIn}
 use Rattle.tables.specs.Group.{sumBelow, elements}
 use Rattle.tables.specs.Rule.{allBelow, countFits, unusedZero, formRule, ruled, keepsRule}
 use Rattle.tables.proofs.All.{all-none, all-more, all-fails, sum-none, sum-more, sum-most}
@@ -34,8 +34,8 @@ module _ (f : ℕ → Bool) where
 pub ruleset turns = (all-none, all-on, all-stop, all-done, needs)
 
 -- "512 objects"
-pub object-few : (t : List ℕ) (c i : ℕ) → c ≡ countIn t (sectionIn sections object) → i < c → i < 512
-unfolding countIn sections
+pub object-few : (t : List ℕ) (c i : ℕ) → c ≡ countIn t (sectionIn tableSections objectSection) → i < c → i < 512
+unfolding countIn tableSections
 object-few t c i p h = omega arith
 
 pub ruleset object-turns = (all-none, all-on, all-stop, all-done, object-few, needs)
@@ -43,16 +43,16 @@ pub ruleset object-turns = (all-none, all-on, all-stop, all-done, object-few, ne
 -- ---- numbers of a record that are zero
 
 abbrev pub zeroAt : List ℕ → ℕ → ℕ → ℕ → ℕ → Bool
-zeroAt t j i a k = eqb (slotIn t (sectionIn sections j) i (k + a)) 0
+zeroAt t j i a k = eqb (slotIn t (sectionIn tableSections j) i (k + a)) 0
 
 module _ (t : List ℕ) (j i a : ℕ) where
   pub zeros-none : allBelow 0 (zeroAt t j i a) ≡ true
   zeros-none = all-none (zeroAt t j i a)
 
-  pub zeros-on : (k v : ℕ) → allBelow k (zeroAt t j i a) ≡ true → v ≡ slotIn t (sectionIn sections j) i (k + a) → v ≡ 0 → allBelow (k + 1) (zeroAt t j i a) ≡ true
+  pub zeros-on : (k v : ℕ) → allBelow k (zeroAt t j i a) ≡ true → v ≡ slotIn t (sectionIn tableSections j) i (k + a) → v ≡ 0 → allBelow (k + 1) (zeroAt t j i a) ≡ true
   zeros-on k v p q h = all-more (zeroAt t j i a) k p (rw (← q) (eq-eqb v 0 h))
 
-  pub zeros-stop : (n k v : ℕ) → k < n → v ≡ slotIn t (sectionIn sections j) i (k + a) → (v ≡ 0 → ⊥) → false ≡ allBelow n (zeroAt t j i a)
+  pub zeros-stop : (n k v : ℕ) → k < n → v ≡ slotIn t (sectionIn tableSections j) i (k + a) → (v ≡ 0 → ⊥) → false ≡ allBelow n (zeroAt t j i a)
   zeros-stop n k v l q h = sym (all-fails (zeroAt t j i a) n k l (rw (← q) (ne-eqb v 0 h)))
 
   pub zeros-done : (n k : ℕ) → n ≤ k → k ≤ n → allBelow k (zeroAt t j i a) ≡ true → true ≡ allBelow n (zeroAt t j i a)
@@ -117,13 +117,13 @@ pub ruleset clears = (clear-none, clear-on, clear-done, needs)
 -- ---- sections
 
 -- c is what `section_of` gave
-module _ (t : List ℕ) (j : ℕ) (c : Section) (p : c ≡ sectionIn sections j) where
+module _ (t : List ℕ) (j : ℕ) (c : Section) (p : c ≡ sectionIn tableSections j) where
   pub fits-is : (v : ℕ) → v ≡ getD t (c .base) 0 → leb v (c .most) ≡ countFits t j
   unfolding countFits
   fits-is v q = rw (q, p)
 
   -- u cells are used by n records, and a by the most there may be
-  module _ (n u a : ℕ) (q : n ≡ countIn t (sectionIn sections j)) (pu : u ≡ c .width * n) (pa : a ≡ c .width * c .most) where
+  module _ (n u a : ℕ) (q : n ≡ countIn t (sectionIn tableSections j)) (pu : u ≡ c .width * n) (pa : a ≡ c .width * c .most) where
     pub unused-is : (r : Bool) → r ≡ allBelow (a - u) (clearAt t (c .base + (1 + u))) → r ≡ unusedZero t j
     unfolding unusedZero
     unused-is r e = rw (e, pu, pa, p, q)
@@ -148,11 +148,11 @@ module _ (t : List ℕ) where
   form-on j a b p q r h = all-more (formedAt t) j p (rw (← q, ← r) h)
 
   pub form-stop : (j : ℕ) (a b : Bool) → j < 6 → a ≡ countFits t j → b ≡ unusedZero t j → (a && b) ≡ false → false ≡ formRule t
-  unfolding formRule sections
+  unfolding formRule tableSections
   form-stop j a b l q r h = sym (all-fails (formedAt t) 6 j l (rw (← q, ← r) h))
 
   pub form-done : (j : ℕ) → 6 ≤ j → j ≤ 6 → allBelow j (formedAt t) ≡ true → true ≡ formRule t
-  unfolding formRule sections
+  unfolding formRule tableSections
   form-done j h l p = let e : 6 ≡ j = omega arith in rw e (sym p)
 
   pub keeps-formed : (n m : ℕ) (a r : Bool) → a ≡ formRule t → a ≡ true → r ≡ ruled (tablesIn t) n m → r ≡ keepsRule n m t

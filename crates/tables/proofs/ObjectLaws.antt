@@ -7,7 +7,7 @@ use borrow.Author.Needs.{needs}
 use borrow.Author.Tests.{ne-eqb}
 use lib.Dec.{eqb}
 use Rattle.rows.specs.Codes.{AXIS-PTS, MEASUREMENT, VALUE, VAL-BLK, CURVE, MAP}
-use Rattle.tables.specs.Form.{group, Tables, kind, x, y}
+use Rattle.tables.specs.Form.{groupSection, Tables, kind, x, y}
 use Rattle.tables.specs.Rule.{axisPtsRule, blockRule, valueRule, measurementRule, curveRule, mapRule, partsRule}
 
 twice-not : (b : Bool) → not (not b) ≡ b
@@ -30,7 +30,7 @@ module _ (T : Tables) (i : ℕ) where
   unfolding valueRule
   value-is n r p q = rw (p, q)
 
-  pub measurement-is : (f : ℕ) (r : Bool) → r ≡ valueRule T i → f ≡ T .slots group (i * 3 + 2) 10 → (r && eqb f 1) ≡ measurementRule T i
+  pub measurement-is : (f : ℕ) (r : Bool) → r ≡ valueRule T i → f ≡ T .slots groupSection (i * 3 + 2) 10 → (r && eqb f 1) ≡ measurementRule T i
   unfolding measurementRule
   measurement-is f r p q = rw (p, q)
 

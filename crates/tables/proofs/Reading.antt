@@ -15,9 +15,9 @@ use lib.Dec.{eqb, leb, ltb}
 use Rattle.cell.specs.Kind.{shapeOf}
 use Rattle.cell.specs.Mask.{maskRule}
 use Rattle.rows.specs.Codes.{MEASUREMENT}
-use Rattle.tables.specs.Form.{head, object, group, method, table, entry, Tables, tablesIn, total, kind, place, x, y, wide, high, walk, methodOf, mask, forbidden, counter, counterPlace}
+use Rattle.tables.specs.Form.{headSection, objectSection, groupSection, methodSection, tableSection, entrySection, Tables, tablesIn, total, kind, place, x, y, wide, high, walk, methodOf, mask, forbidden, counter, counterPlace}
 use Rattle.tables.specs.Group.{groupOf, sumBelow, position, elements, bytes, placeOf}
-use Rattle.tables.specs.Rule.{allBelow, isType, textRule, insideRule, valueRule, measurementRule, partsRule, objectRule, noPart, pointsRule, counterRule, axisRule, valuesRule, limitsRule, bytesRule, roleRule, partRule, groupRule, verbalRule, methodRule, tableRule, entryRule, headRule, ruled, formRule, keepsRule}
+use Rattle.tables.specs.Rule.{allBelow, isType, textRule, insideRule, valueRule, measurementRule, partsRule, objectRule, isNoPart, pointsRule, counterRule, axisRule, valuesRule, limitsRule, bytesRule, roleRule, partRule, groupRule, verbalRule, methodRule, tableRule, entryRule, headRule, ruled, formRule, keepsRule}
 use Rattle.tables.proofs.All.{left, right, three, five, six, all-at}
 use Rattle.tables.proofs.Addressing.{position-below}
 
@@ -33,11 +33,11 @@ either a b p h = rw p at h
 
 module _ (T : Tables) (g m : ℕ) where
   -- a part that is not stored is zeros
-  zero-slot : noPart T g ≡ true → (k : ℕ) → k < 19 → T .slots group g k ≡ 0
-  unfolding noPart
-  zero-slot h k l = eqb-true (T .slots group g k) 0 (all-at 19 (λ i. eqb (T .slots group g i) 0) h k l)
+  zero-slot : isNoPart T g ≡ true → (k : ℕ) → k < 19 → T .slots groupSection g k ≡ 0
+  unfolding isNoPart
+  zero-slot h k l = eqb-true (T .slots groupSection g k) 0 (all-at 19 (λ i. eqb (T .slots groupSection g i) 0) h k l)
 
-  none-empty : noPart T g ≡ true → elements T g ≡ 0
+  none-empty : isNoPart T g ≡ true → elements T g ≡ 0
   none-empty h = rw (zero-slot h 3 (omega arith)) (zero-mul (y T g))
 
   -- what the rule says of a part that is stored
@@ -46,20 +46,20 @@ module _ (T : Tables) (g m : ℕ) where
     pub same-high : high T g ≡ y T g
     pub in-image : place T g + bytes T g * (wide T g * high T g) ≤ m
     pub role : roleRule T g m ≡ true
-    pub its-method : methodOf T g ≤ T .counts method
+    pub its-method : methodOf T g ≤ T .counts methodSection
 
   part-facts : partRule T g m ≡ true → Part
   unfolding partRule pointsRule bytesRule insideRule
   part-facts h =
-      let u = three (isType (kind T g) && leb (T .slots group g 1) 1 && pointsRule T g && bytesRule T g m && roleRule T g m && leb (methodOf T g) (T .counts method)) (leb (T .slots group g 10) 1) (limitsRule T g) h in
-      let v = six (isType (kind T g)) (leb (T .slots group g 1) 1) (pointsRule T g) (bytesRule T g m) (roleRule T g m) (leb (methodOf T g) (T .counts method)) (u .0) in
+      let u = three (isType (kind T g) && leb (T .slots groupSection g 1) 1 && pointsRule T g && bytesRule T g m && roleRule T g m && leb (methodOf T g) (T .counts methodSection)) (leb (T .slots groupSection g 10) 1) (limitsRule T g) h in
+      let v = six (isType (kind T g)) (leb (T .slots groupSection g 1) 1) (pointsRule T g) (bytesRule T g m) (roleRule T g m) (leb (methodOf T g) (T .counts methodSection)) (u .0) in
       let p = three (leb 1 (x T g) && leb (x T g) 4096 && leb 1 (y T g) && leb (y T g) 4096) (eqb (wide T g) (x T g)) (eqb (high T g) (y T g)) (v .2) in
       record {
         same-wide = eqb-true (wide T g) (x T g) (p .1);
         same-high = eqb-true (high T g) (y T g) (p .2);
         in-image = leb-true (place T g + bytes T g * (wide T g * high T g)) m (v .3);
         role = v .4;
-        its-method = leb-true (methodOf T g) (T .counts method) (v .5);
+        its-method = leb-true (methodOf T g) (T .counts methodSection) (v .5);
       }
 
   -- only an axis stores its last point first, and it has one row
@@ -69,7 +69,7 @@ module _ (T : Tables) (g m : ℕ) where
     by-role : (b : Bool) → ltb (g % 3) 2 ≡ b → cond b (axisRule T g m) (valuesRule T g) ≡ true → y T g ≡ 1
     by-role true b h = eqb-true (y T g) 1 (five (leb (x T g) 256) (eqb (y T g) 1) (leb (walk T g) 1) (eqb (mask T g) 0) (counterRule T g m) h .1)
     by-role false b h =
-        let v = three ((eqb (walk T g) 0 || eqb (walk T g) 2) && (eqb (mask T g) 0 || maskRule (shapeOf (kind T g)) (mask T g))) (eqb (counter T g) 0) (eqb (T .slots group g 18) 0) h in
+        let v = three ((eqb (walk T g) 0 || eqb (walk T g) 2) && (eqb (mask T g) 0 || maskRule (shapeOf (kind T g)) (mask T g))) (eqb (counter T g) 0) (eqb (T .slots groupSection g 18) 0) h in
         let z : (eqb (walk T g) 0 || eqb (walk T g) 2) ≡ true = left _ (eqb (mask T g) 0 || maskRule (shapeOf (kind T g)) (mask T g)) (v .0) in
         absurd (false≢true (rw w at z))
 
@@ -84,8 +84,8 @@ module _ (T : Tables) (g m : ℕ) where
   counter-facts : counterRule T g m ≡ true → (counter T g ≡ 0 → ⊥) → counterPlace T g + shapeOf (counter T g) .bytes ≤ m
   unfolding counterRule insideRule
   counter-facts h d =
-      let a : (eqb (counter T g) 0 && eqb (T .slots group g 18) 0) ≡ false = rw (ne-eqb (counter T g) 0 d) in
-      let z = either (eqb (counter T g) 0 && eqb (T .slots group g 18) 0) (isType (counter T g) && leb (counterPlace T g + shapeOf (counter T g) .bytes) m) a h in
+      let a : (eqb (counter T g) 0 && eqb (T .slots groupSection g 18) 0) ≡ false = rw (ne-eqb (counter T g) 0 d) in
+      let z = either (eqb (counter T g) 0 && eqb (T .slots groupSection g 18) 0) (isType (counter T g) && leb (counterPlace T g + shapeOf (counter T g) .bytes) m) a h in
       leb-true (counterPlace T g + shapeOf (counter T g) .bytes) m (right (isType (counter T g)) (leb (counterPlace T g + shapeOf (counter T g) .bytes) m) z)
 
   role-counter : roleRule T g m ≡ true → (counter T g ≡ 0 → ⊥) → counterPlace T g + shapeOf (counter T g) .bytes ≤ m
@@ -94,14 +94,14 @@ module _ (T : Tables) (g m : ℕ) where
     by-role : (b : Bool) → ltb (g % 3) 2 ≡ b → cond b (axisRule T g m) (valuesRule T g) ≡ true → counterPlace T g + shapeOf (counter T g) .bytes ≤ m
     by-role true b h = counter-facts (five (leb (x T g) 256) (eqb (y T g) 1) (leb (walk T g) 1) (eqb (mask T g) 0) (counterRule T g m) h .4) d
     by-role false b h =
-        let v = three ((eqb (walk T g) 0 || eqb (walk T g) 2) && (eqb (mask T g) 0 || maskRule (shapeOf (kind T g)) (mask T g))) (eqb (counter T g) 0) (eqb (T .slots group g 18) 0) h in
+        let v = three ((eqb (walk T g) 0 || eqb (walk T g) 2) && (eqb (mask T g) 0 || maskRule (shapeOf (kind T g)) (mask T g))) (eqb (counter T g) 0) (eqb (T .slots groupSection g 18) 0) h in
         absurd (d (eqb-true (counter T g) 0 (v .1)))
 
   -- a group is zeros, or a part that is stored
-  group-cases : {P : Type 0} → groupRule T g m ≡ true → (noPart T g ≡ true → P) → (Part → P) → P
+  group-cases : {P : Type 0} → groupRule T g m ≡ true → (isNoPart T g ≡ true → P) → (Part → P) → P
   unfolding groupRule
   group-cases {P} h none some = by-kind (eqb (kind T g) 0) refl h where
-    by-kind : (b : Bool) → eqb (kind T g) 0 ≡ b → cond b (noPart T g) (partRule T g m) ≡ true → P
+    by-kind : (b : Bool) → eqb (kind T g) 0 ≡ b → cond b (isNoPart T g) (partRule T g m) ≡ true → P
     by-kind true b h = none h
     by-kind false b h = some (part-facts h)
 
@@ -110,111 +110,111 @@ module _ (T : Tables) (g m : ℕ) where
 -- the six parts of the rule
 pub record Ruled (T : Tables) (n m : ℕ) : Type 0 where
   pub of-head : headRule T ≡ true
-  pub of-objects : allBelow (T .counts object) (objectRule T n) ≡ true
-  pub of-groups : allBelow (T .counts group) (λ g. groupRule T g m) ≡ true
-  pub of-methods : allBelow (T .counts method) (methodRule T) ≡ true
-  pub of-tables : allBelow (T .counts table) (tableRule T n) ≡ true
-  pub of-entries : allBelow (T .counts entry) (entryRule T n) ≡ true
+  pub of-objects : allBelow (T .counts objectSection) (objectRule T n) ≡ true
+  pub of-groups : allBelow (T .counts groupSection) (λ g. groupRule T g m) ≡ true
+  pub of-methods : allBelow (T .counts methodSection) (methodRule T) ≡ true
+  pub of-tables : allBelow (T .counts tableSection) (tableRule T n) ≡ true
+  pub of-entries : allBelow (T .counts entrySection) (entryRule T n) ≡ true
 
 pub rule-facts : (n m : ℕ) (t : List ℕ) → keepsRule n m t ≡ true → Ruled (tablesIn t) n m
 unfolding keepsRule ruled
 rule-facts n m t h =
     let v =
-    six (headRule (tablesIn t)) (allBelow (tablesIn t .counts object) (objectRule (tablesIn t) n)) (allBelow (tablesIn t .counts group) (λ g. groupRule (tablesIn t) g m))
-    (allBelow (tablesIn t .counts method) (methodRule (tablesIn t))) (allBelow (tablesIn t .counts table) (tableRule (tablesIn t) n))
-    (allBelow (tablesIn t .counts entry) (entryRule (tablesIn t) n)) (right (formRule t) (ruled (tablesIn t) n m) h) in
+    six (headRule (tablesIn t)) (allBelow (tablesIn t .counts objectSection) (objectRule (tablesIn t) n)) (allBelow (tablesIn t .counts groupSection) (λ g. groupRule (tablesIn t) g m))
+    (allBelow (tablesIn t .counts methodSection) (methodRule (tablesIn t))) (allBelow (tablesIn t .counts tableSection) (tableRule (tablesIn t) n))
+    (allBelow (tablesIn t .counts entrySection) (entryRule (tablesIn t) n)) (right (formRule t) (ruled (tablesIn t) n m) h) in
     record { of-head = v .0; of-objects = v .1; of-groups = v .2; of-methods = v .3; of-tables = v .4; of-entries = v .5 }
 
 -- what the head says
-head-facts : (T : Tables) → headRule T ≡ true → (total T ≡ sumBelow (T .counts group) (elements T)) × (total T ≤ 4096) × (T .counts group ≡ T .counts object * 3)
+head-facts : (T : Tables) → headRule T ≡ true → (total T ≡ sumBelow (T .counts groupSection) (elements T)) × (total T ≤ 4096) × (T .counts groupSection ≡ T .counts objectSection * 3)
 unfolding headRule
 head-facts T h =
-    let v = six (eqb (T .counts head) 1) (eqb (T .slots head 0 0) 0) (eqb (T .slots head 0 1) 0) (eqb (total T) (sumBelow (T .counts group) (elements T))) (leb (total T) 4096) (eqb (T .counts group) (T .counts object * 3)) h in
-    (eqb-true (total T) (sumBelow (T .counts group) (elements T)) (v .3), leb-true (total T) 4096 (v .4), eqb-true (T .counts group) (T .counts object * 3) (v .5))
+    let v = six (eqb (T .counts headSection) 1) (eqb (T .slots headSection 0 0) 0) (eqb (T .slots headSection 0 1) 0) (eqb (total T) (sumBelow (T .counts groupSection) (elements T))) (leb (total T) 4096) (eqb (T .counts groupSection) (T .counts objectSection * 3)) h in
+    (eqb-true (total T) (sumBelow (T .counts groupSection) (elements T)) (v .3), leb-true (total T) 4096 (v .4), eqb-true (T .counts groupSection) (T .counts objectSection * 3) (v .5))
 
 -- what one record says
-object-facts : (T : Tables) (n i : ℕ) → objectRule T n i ≡ true → (T .slots object i 0 ≤ T .slots object i 1) × (T .slots object i 1 ≤ n)
+object-facts : (T : Tables) (n i : ℕ) → objectRule T n i ≡ true → (T .slots objectSection i 0 ≤ T .slots objectSection i 1) × (T .slots objectSection i 1 ≤ n)
 unfolding objectRule
-object-facts T n i h = text-facts n (T .slots object i 0) (T .slots object i 1) (left (textRule n (T .slots object i 0) (T .slots object i 1)) (partsRule T i (T .slots object i 2)) h)
+object-facts T n i h = text-facts n (T .slots objectSection i 0) (T .slots objectSection i 1) (left (textRule n (T .slots objectSection i 0) (T .slots objectSection i 1)) (partsRule T i (T .slots objectSection i 2)) h)
 
-measurement-facts : (T : Tables) (n i : ℕ) → objectRule T n i ≡ true → T .slots object i 2 ≡ MEASUREMENT → T .slots group (groupOf i 2) 10 ≡ 1
+measurement-facts : (T : Tables) (n i : ℕ) → objectRule T n i ≡ true → T .slots objectSection i 2 ≡ MEASUREMENT → T .slots groupSection (groupOf i 2) 10 ≡ 1
 unfolding objectRule partsRule measurementRule
 measurement-facts T n i h e =
-    let p : partsRule T i (T .slots object i 2) ≡ true = right (textRule n (T .slots object i 0) (T .slots object i 1)) (partsRule T i (T .slots object i 2)) h in
+    let p : partsRule T i (T .slots objectSection i 2) ≡ true = right (textRule n (T .slots objectSection i 0) (T .slots objectSection i 1)) (partsRule T i (T .slots objectSection i 2)) h in
     let q : measurementRule T i ≡ true = rw e at p in
-    eqb-true (T .slots group (groupOf i 2) 10) 1 (right (valueRule T i) (eqb (T .slots group (groupOf i 2) 10) 1) q)
+    eqb-true (T .slots groupSection (groupOf i 2) 10) 1 (right (valueRule T i) (eqb (T .slots groupSection (groupOf i 2) 10) 1) q)
 
-entry-facts : (T : Tables) (n i : ℕ) → entryRule T n i ≡ true → (T .slots entry i 2 ≤ T .slots entry i 3) × (T .slots entry i 3 ≤ n)
+entry-facts : (T : Tables) (n i : ℕ) → entryRule T n i ≡ true → (T .slots entrySection i 2 ≤ T .slots entrySection i 3) × (T .slots entrySection i 3 ≤ n)
 unfolding entryRule
-entry-facts T n i h = text-facts n (T .slots entry i 2) (T .slots entry i 3) (right (leb (T .slots entry i 0) 1) (textRule n (T .slots entry i 2) (T .slots entry i 3)) h)
+entry-facts T n i h = text-facts n (T .slots entrySection i 2) (T .slots entrySection i 3) (right (leb (T .slots entrySection i 0) 1) (textRule n (T .slots entrySection i 2) (T .slots entrySection i 3)) h)
 
 table-facts : (T : Tables) (n i : ℕ) → tableRule T n i ≡ true
-    → (T .slots table i 0 + T .slots table i 1 ≤ T .counts entry) × (T .slots table i 2 ≤ T .slots table i 3) × (T .slots table i 3 ≤ n)
+    → (T .slots tableSection i 0 + T .slots tableSection i 1 ≤ T .counts entrySection) × (T .slots tableSection i 2 ≤ T .slots tableSection i 3) × (T .slots tableSection i 3 ≤ n)
 unfolding tableRule
 table-facts T n i h =
-    let v = text-facts n (T .slots table i 2) (T .slots table i 3) (right (leb (T .slots table i 0 + T .slots table i 1) (T .counts entry)) (textRule n (T .slots table i 2) (T .slots table i 3)) h) in
-    (leb-true (T .slots table i 0 + T .slots table i 1) (T .counts entry) (left (leb (T .slots table i 0 + T .slots table i 1) (T .counts entry)) (textRule n (T .slots table i 2) (T .slots table i 3)) h), v .0, v .1)
+    let v = text-facts n (T .slots tableSection i 2) (T .slots tableSection i 3) (right (leb (T .slots tableSection i 0 + T .slots tableSection i 1) (T .counts entrySection)) (textRule n (T .slots tableSection i 2) (T .slots tableSection i 3)) h) in
+    (leb-true (T .slots tableSection i 0 + T .slots tableSection i 1) (T .counts entrySection) (left (leb (T .slots tableSection i 0 + T .slots tableSection i 1) (T .counts entrySection)) (textRule n (T .slots tableSection i 2) (T .slots tableSection i 3)) h), v .0, v .1)
 
-verbal-facts : (T : Tables) (i : ℕ) → methodRule T i ≡ true → T .slots method i 0 ≡ 22 → (1 ≤ T .slots method i 9) × (T .slots method i 9 ≤ T .counts table)
+verbal-facts : (T : Tables) (i : ℕ) → methodRule T i ≡ true → T .slots methodSection i 0 ≡ 22 → (1 ≤ T .slots methodSection i 9) × (T .slots methodSection i 9 ≤ T .counts tableSection)
 unfolding methodRule verbalRule
 verbal-facts T i h e =
-    let z : verbalRule T i ≡ true = rw (eq-eqb (T .slots method i 0) 22 e) at h in
-    let v = three (allBelow 8 (λ k. eqb (T .slots method i (k + 1)) 0)) (leb 1 (T .slots method i 9)) (leb (T .slots method i 9) (T .counts table)) z in
-    (leb-true 1 (T .slots method i 9) (v .1), leb-true (T .slots method i 9) (T .counts table) (v .2))
+    let z : verbalRule T i ≡ true = rw (eq-eqb (T .slots methodSection i 0) 22 e) at h in
+    let v = three (allBelow 8 (λ k. eqb (T .slots methodSection i (k + 1)) 0)) (leb 1 (T .slots methodSection i 9)) (leb (T .slots methodSection i 9) (T .counts tableSection)) z in
+    (leb-true 1 (T .slots methodSection i 9) (v .1), leb-true (T .slots methodSection i 9) (T .counts tableSection) (v .2))
 
 module _ (n m : ℕ) (t : List ℕ) (h : keepsRule n m t ≡ true) where
   -- what holds of every group that is zeros and of every part that is stored
-  of-group : {P : Type 0} (g : ℕ) → g < tablesIn t .counts group → (noPart (tablesIn t) g ≡ true → P) → (Part (tablesIn t) g m → P) → P
-  of-group g l = group-cases (tablesIn t) g m (all-at (tablesIn t .counts group) (λ i. groupRule (tablesIn t) i m) (rule-facts n m t h .of-groups) g l)
+  of-group : {P : Type 0} (g : ℕ) → g < tablesIn t .counts groupSection → (isNoPart (tablesIn t) g ≡ true → P) → (Part (tablesIn t) g m → P) → P
+  of-group g l = group-cases (tablesIn t) g m (all-at (tablesIn t .counts groupSection) (λ i. groupRule (tablesIn t) i m) (rule-facts n m t h .of-groups) g l)
 
   -- "each element's bytes .. inside the image"
-  pub element-inside : (g i : ℕ) → g < tablesIn t .counts group → i < elements (tablesIn t) g → placeOf (tablesIn t) g i + bytes (tablesIn t) g ≤ m
+  pub element-inside : (g i : ℕ) → g < tablesIn t .counts groupSection → i < elements (tablesIn t) g → placeOf (tablesIn t) g i + bytes (tablesIn t) g ≤ m
   element-inside g i l p =
       of-group g l (λ z. absurd (omega (arith, none-empty (tablesIn t) g m z)))
       (λ f. part-inside (tablesIn t) g m f i p)
 
   -- "each stored count inside the image"
-  pub counter-inside : (g : ℕ) → g < tablesIn t .counts group → (counter (tablesIn t) g ≡ 0 → ⊥) → counterPlace (tablesIn t) g + shapeOf (counter (tablesIn t) g) .bytes ≤ m
+  pub counter-inside : (g : ℕ) → g < tablesIn t .counts groupSection → (counter (tablesIn t) g ≡ 0 → ⊥) → counterPlace (tablesIn t) g + shapeOf (counter (tablesIn t) g) .bytes ≤ m
   counter-inside g l d = of-group g l (λ z. absurd (d (zero-slot (tablesIn t) g m z 17 (omega arith)))) (λ f. role-counter (tablesIn t) g m (f .role) d)
 
   -- "text places inside the description"
-  pub name-inside : (i : ℕ) → i < tablesIn t .counts object → (tablesIn t .slots object i 0 ≤ tablesIn t .slots object i 1) × (tablesIn t .slots object i 1 ≤ n)
-  name-inside i l = object-facts (tablesIn t) n i (all-at (tablesIn t .counts object) (objectRule (tablesIn t) n) (rule-facts n m t h .of-objects) i l)
+  pub name-inside : (i : ℕ) → i < tablesIn t .counts objectSection → (tablesIn t .slots objectSection i 0 ≤ tablesIn t .slots objectSection i 1) × (tablesIn t .slots objectSection i 1 ≤ n)
+  name-inside i l = object-facts (tablesIn t) n i (all-at (tablesIn t .counts objectSection) (objectRule (tablesIn t) n) (rule-facts n m t h .of-objects) i l)
 
-  pub entry-inside : (i : ℕ) → i < tablesIn t .counts entry → (tablesIn t .slots entry i 2 ≤ tablesIn t .slots entry i 3) × (tablesIn t .slots entry i 3 ≤ n)
-  entry-inside i l = entry-facts (tablesIn t) n i (all-at (tablesIn t .counts entry) (entryRule (tablesIn t) n) (rule-facts n m t h .of-entries) i l)
+  pub entry-inside : (i : ℕ) → i < tablesIn t .counts entrySection → (tablesIn t .slots entrySection i 2 ≤ tablesIn t .slots entrySection i 3) × (tablesIn t .slots entrySection i 3 ≤ n)
+  entry-inside i l = entry-facts (tablesIn t) n i (all-at (tablesIn t .counts entrySection) (entryRule (tablesIn t) n) (rule-facts n m t h .of-entries) i l)
 
-  of-table : (i : ℕ) → i < tablesIn t .counts table
-      → (tablesIn t .slots table i 0 + tablesIn t .slots table i 1 ≤ tablesIn t .counts entry) × (tablesIn t .slots table i 2 ≤ tablesIn t .slots table i 3) × (tablesIn t .slots table i 3 ≤ n)
-  of-table i l = table-facts (tablesIn t) n i (all-at (tablesIn t .counts table) (tableRule (tablesIn t) n) (rule-facts n m t h .of-tables) i l)
+  of-table : (i : ℕ) → i < tablesIn t .counts tableSection
+      → (tablesIn t .slots tableSection i 0 + tablesIn t .slots tableSection i 1 ≤ tablesIn t .counts entrySection) × (tablesIn t .slots tableSection i 2 ≤ tablesIn t .slots tableSection i 3) × (tablesIn t .slots tableSection i 3 ≤ n)
+  of-table i l = table-facts (tablesIn t) n i (all-at (tablesIn t .counts tableSection) (tableRule (tablesIn t) n) (rule-facts n m t h .of-tables) i l)
 
-  pub default-inside : (i : ℕ) → i < tablesIn t .counts table → (tablesIn t .slots table i 2 ≤ tablesIn t .slots table i 3) × (tablesIn t .slots table i 3 ≤ n)
+  pub default-inside : (i : ℕ) → i < tablesIn t .counts tableSection → (tablesIn t .slots tableSection i 2 ≤ tablesIn t .slots tableSection i 3) × (tablesIn t .slots tableSection i 3 ≤ n)
   default-inside i l = (of-table i l .1, of-table i l .2)
 
   -- "every reference below its table's count": a method's number, a verbal table's (each stored with one more), and a table's entries
-  pub method-below : (g : ℕ) → g < tablesIn t .counts group → methodOf (tablesIn t) g ≤ tablesIn t .counts method
+  pub method-below : (g : ℕ) → g < tablesIn t .counts groupSection → methodOf (tablesIn t) g ≤ tablesIn t .counts methodSection
   method-below g l = of-group g l (λ z. rw (zero-slot (tablesIn t) g m z 8 (omega arith)) (omega arith)) (λ f. f .its-method)
 
-  pub verbal-below : (i : ℕ) → i < tablesIn t .counts method → tablesIn t .slots method i 0 ≡ 22
-      → (1 ≤ tablesIn t .slots method i 9) × (tablesIn t .slots method i 9 ≤ tablesIn t .counts table)
-  verbal-below i l = verbal-facts (tablesIn t) i (all-at (tablesIn t .counts method) (methodRule (tablesIn t)) (rule-facts n m t h .of-methods) i l)
+  pub verbal-below : (i : ℕ) → i < tablesIn t .counts methodSection → tablesIn t .slots methodSection i 0 ≡ 22
+      → (1 ≤ tablesIn t .slots methodSection i 9) × (tablesIn t .slots methodSection i 9 ≤ tablesIn t .counts tableSection)
+  verbal-below i l = verbal-facts (tablesIn t) i (all-at (tablesIn t .counts methodSection) (methodRule (tablesIn t)) (rule-facts n m t h .of-methods) i l)
 
-  pub entries-below : (i : ℕ) → i < tablesIn t .counts table → tablesIn t .slots table i 0 + tablesIn t .slots table i 1 ≤ tablesIn t .counts entry
+  pub entries-below : (i : ℕ) → i < tablesIn t .counts tableSection → tablesIn t .slots tableSection i 0 + tablesIn t .slots tableSection i 1 ≤ tablesIn t .counts entrySection
   entries-below i l = of-table i l .0
 
   -- "MEASUREMENT or READ_ONLY" (21): of a MEASUREMENT the mark is there
-  pub measurement-forbidden : (i : ℕ) → i < tablesIn t .counts object → tablesIn t .slots object i 2 ≡ MEASUREMENT → forbidden (tablesIn t) (groupOf i 2) ≡ true
+  pub measurement-forbidden : (i : ℕ) → i < tablesIn t .counts objectSection → tablesIn t .slots objectSection i 2 ≡ MEASUREMENT → forbidden (tablesIn t) (groupOf i 2) ≡ true
   measurement-forbidden i l e =
-      let o : objectRule (tablesIn t) n i ≡ true = all-at (tablesIn t .counts object) (objectRule (tablesIn t) n) (rule-facts n m t h .of-objects) i l in
+      let o : objectRule (tablesIn t) n i ≡ true = all-at (tablesIn t .counts objectSection) (objectRule (tablesIn t) n) (rule-facts n m t h .of-objects) i l in
       rw (measurement-facts (tablesIn t) n i o e)
 
   -- "4,096 elements in all objects"
-  pub total-is : total (tablesIn t) ≡ sumBelow (tablesIn t .counts group) (elements (tablesIn t))
+  pub total-is : total (tablesIn t) ≡ sumBelow (tablesIn t .counts groupSection) (elements (tablesIn t))
   total-is = head-facts (tablesIn t) (rule-facts n m t h .of-head) .0
 
   pub total-most : total (tablesIn t) ≤ 4096
   total-most = head-facts (tablesIn t) (rule-facts n m t h .of-head) .1
 
   -- the groups are the objects' parts
-  pub groups-are : tablesIn t .counts group ≡ tablesIn t .counts object * 3
+  pub groups-are : tablesIn t .counts groupSection ≡ tablesIn t .counts objectSection * 3
   groups-are = head-facts (tablesIn t) (rule-facts n m t h .of-head) .2

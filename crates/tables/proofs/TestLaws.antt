@@ -6,7 +6,7 @@ use native.Mathlib.Omega.{arith}
 use borrow.Author.Needs.{needs}
 use borrow.Author.Tests.{le-leb, lt-leb, leb-true, leb-false}
 use lib.Dec.{leb}
-use Rattle.tables.specs.Form.{sections}
+use Rattle.tables.specs.Form.{tableSections}
 use Rattle.tables.specs.Rule.{isType, textRule, insideRule}
 use Rattle.tables.specs.Sizes.{sizesFit}
 use Rattle.tables.proofs.All.{right}
@@ -38,11 +38,11 @@ pub ruleset tests = (type-is, text-is, inside-is, sum-rest, sum-past, needs)
 -- n bytes of description, m of image, a base address, c cells
 module _ (n m b c : ℕ) where
   pub sizes-in : (leb n 16777216 && leb m 1048576) ≡ true → (leb (b + m) 4294967296 && leb 36617 c) ≡ sizesFit n m b c
-  unfolding sizesFit sections
+  unfolding sizesFit tableSections
   sizes-in h = rw h
 
   pub sizes-out : (leb n 16777216 && leb m 1048576) ≡ false → false ≡ sizesFit n m b c
-  unfolding sizesFit sections
+  unfolding sizesFit tableSections
   sizes-out h = rw h
 
   pub sizes-sum : (leb n 16777216 && leb m 1048576) ≡ true → m ≤ 1048576

@@ -20,27 +20,27 @@ use Rattle.convert.specs.declared.method.Coefficients.{Coefficients}
 use Rattle.records.specs.Records.{Sec, count, slot}
 use Rattle.records.specs.Cells.{sectionIn, countIn, slotIn}
 
-abbrev pub head : ℕ
-head = 0
+abbrev pub headSection : ℕ
+headSection = 0
 
-abbrev pub object : ℕ
-object = 1
+abbrev pub objectSection : ℕ
+objectSection = 1
 
-abbrev pub group : ℕ
-group = 2
+abbrev pub groupSection : ℕ
+groupSection = 2
 
-abbrev pub method : ℕ
-method = 3
+abbrev pub methodSection : ℕ
+methodSection = 3
 
-abbrev pub table : ℕ
-table = 4
+abbrev pub tableSection : ℕ
+tableSection = 4
 
-abbrev pub entry : ℕ
-entry = 5
+abbrev pub entrySection : ℕ
+entrySection = 5
 
 -- "512 objects, 128 methods, 128 verbal tables ..; 1,024 verbal entries in all tables"; an object has three parts
-unfoldable pub sections : List Sec
-sections =
+unfoldable pub tableSections : List Sec
+tableSections =
     record { width = 3; most = 1 }
     ∷ record { width = 3; most = 512 }
     ∷ record { width = 19; most = 1536 }
@@ -58,7 +58,7 @@ abbrev pub tablesOf : List (List (List ℕ)) → Tables
 tablesOf d = record { counts = count d; slots = slot d }
 
 abbrev pub tablesIn : List ℕ → Tables
-tablesIn t = record { counts = λ j. countIn t (sectionIn sections j); slots = λ j. slotIn t (sectionIn sections j) }
+tablesIn t = record { counts = λ j. countIn t (sectionIn tableSections j); slots = λ j. slotIn t (sectionIn tableSections j) }
 
 -- ---- the fields by name. A number past every capacity reads as the first past it, so that nothing grows too large.
 
@@ -74,55 +74,55 @@ pastCoefficient = 1000000001
 
 module _ (T : Tables) where
   abbrev pub total : ℕ
-  total = T .slots head 0 2
+  total = T .slots headSection 0 2
 
   module _ (g : ℕ) where
     abbrev pub kind : ℕ
-    kind = T .slots group g 0
+    kind = T .slots groupSection g 0
 
     abbrev pub first : Bool
-    first = eqb (T .slots group g 1) 1
+    first = eqb (T .slots groupSection g 1) 1
 
     abbrev pub place : ℕ
-    place = min (T .slots group g 2) pastImage
+    place = min (T .slots groupSection g 2) pastImage
 
     abbrev pub x : ℕ
-    x = min (T .slots group g 3) pastPoints
+    x = min (T .slots groupSection g 3) pastPoints
 
     abbrev pub y : ℕ
-    y = min (T .slots group g 4) pastPoints
+    y = min (T .slots groupSection g 4) pastPoints
 
     abbrev pub wide : ℕ
-    wide = min (T .slots group g 5) pastPoints
+    wide = min (T .slots groupSection g 5) pastPoints
 
     abbrev pub high : ℕ
-    high = min (T .slots group g 6) pastPoints
+    high = min (T .slots groupSection g 6) pastPoints
 
     abbrev pub walk : ℕ
-    walk = T .slots group g 7
+    walk = T .slots groupSection g 7
 
     abbrev pub methodOf : ℕ
-    methodOf = T .slots group g 8
+    methodOf = T .slots groupSection g 8
 
     abbrev pub mask : ℕ
-    mask = T .slots group g 9
+    mask = T .slots groupSection g 9
 
     abbrev pub forbidden : Bool
-    forbidden = not (eqb (T .slots group g 10) 0)
+    forbidden = not (eqb (T .slots groupSection g 10) 0)
 
     abbrev pub counter : ℕ
-    counter = T .slots group g 17
+    counter = T .slots groupSection g 17
 
     abbrev pub counterPlace : ℕ
-    counterPlace = min (T .slots group g 18) pastImage
+    counterPlace = min (T .slots groupSection g 18) pastImage
 
   -- the decimal in three cells of group g from k on: 11 the lower, 14 the upper limit
   abbrev pub limit : ℕ → ℕ → Scaled
-  limit g k = record { negative = eqb (T .slots group g k) 1; whole = T .slots group g (k + 1); tens = min (T .slots group g (k + 2)) 7 }
+  limit g k = record { negative = eqb (T .slots groupSection g k) 1; whole = T .slots groupSection g (k + 1); tens = min (T .slots groupSection g (k + 2)) 7 }
 
   -- the whole number in two cells of method m from k on
   abbrev pub coefficient : ℕ → ℕ → ℤ
-  coefficient m k = signedOf (eqb (T .slots method m k) 1) (min (T .slots method m (k + 1)) pastCoefficient)
+  coefficient m k = signedOf (eqb (T .slots methodSection m k) 1) (min (T .slots methodSection m (k + 1)) pastCoefficient)
 
   abbrev pub coefficients : ℕ → Coefficients
   coefficients m = record { b = coefficient m 1; c = coefficient m 3; e = coefficient m 5; f = coefficient m 7 }

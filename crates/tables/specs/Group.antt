@@ -55,8 +55,8 @@ abbrev pub placeBy : Storage → ℕ → ℕ
 placeBy s i = s .place + shapeOf (s .kind) .bytes * position (s .walk) (s .x) (s .wide) (s .high) i
 
 -- the list's line of group g's first element, and of its element i
-abbrev pub before : Tables → ℕ → ℕ
-before T g = sumBelow g (elements T)
+abbrev pub linesBefore : Tables → ℕ → ℕ
+linesBefore T g = sumBelow g (elements T)
 
 abbrev pub lineOf : Tables → ℕ → ℕ → ℕ
-lineOf T g i = before T g + i
+lineOf T g i = linesBefore T g + i

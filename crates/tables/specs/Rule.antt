@@ -10,13 +10,13 @@ use lib.ListN.{length, getD}
 use Rattle.cell.specs.Kind.{UBYTE, SLONG, shapeOf}
 use Rattle.cell.specs.Mask.{maskRule}
 use Rattle.convert.specs.Limit.{atMost}
-use Rattle.convert.specs.Method.{sound, identicalOf}
+use Rattle.convert.specs.Method.{soundMethod, identicalOf}
 use Rattle.convert.specs.Whole.{eqZ}
 use Rattle.convert.specs.declared.method.Coefficients.{Coefficients}
 use Rattle.records.specs.Records.{widthOf, mostOf}
 use Rattle.records.specs.Cells.{baseIn, sectionIn, countIn}
 use Rattle.rows.specs.Codes.{AXIS-PTS, MEASUREMENT, VALUE, VAL-BLK, CURVE, MAP, IDENTICAL, LINEAR, RAT-FUNC, TAB-VERB}
-use Rattle.tables.specs.Form.{sections, head, object, group, method, table, entry, Tables, tablesIn, total, kind, place, x, y, wide, high, walk, methodOf, mask, counter, counterPlace, limit, coefficients}
+use Rattle.tables.specs.Form.{tableSections, headSection, objectSection, groupSection, methodSection, tableSection, entrySection, Tables, tablesIn, total, kind, place, x, y, wide, high, walk, methodOf, mask, counter, counterPlace, limit, coefficients}
 use Rattle.tables.specs.Group.{groupOf, sumBelow, elements, bytes}
 
 -- f holds below n
@@ -91,7 +91,7 @@ module _ (T : Tables) where
 
     -- so has a MEASUREMENT, and it is marked as not to be written: "MEASUREMENT or READ_ONLY" (21)
     unfoldable pub measurementRule : Bool
-    measurementRule = valueRule && eqb (T .slots group (groupOf i 2) 10) 1
+    measurementRule = valueRule && eqb (T .slots groupSection (groupOf i 2) 10) 1
 
     -- a CURVE has values in one row, and x points where it stores them
     unfoldable pub curveRule : Bool
@@ -111,12 +111,12 @@ module _ (T : Tables) where
         (cond (eqb what MAP) mapRule false)))))
 
   unfoldable pub objectRule : ℕ → ℕ → Bool
-  objectRule n i = textRule n (T .slots object i 0) (T .slots object i 1) && partsRule i (T .slots object i 2)
+  objectRule n i = textRule n (T .slots objectSection i 0) (T .slots objectSection i 1) && partsRule i (T .slots objectSection i 2)
 
   module _ (g : ℕ) where
     -- a part that the object does not store: "no unused field other than zero"
-    unfoldable pub noPart : Bool
-    noPart = allBelow 19 (λ k. eqb (T .slots group g k) 0)
+    unfoldable pub isNoPart : Bool
+    isNoPart = allBelow 19 (λ k. eqb (T .slots groupSection g k) 0)
 
     -- a part that is stored has points; points and room are equal: parts are packed
     unfoldable pub pointsRule : Bool
@@ -126,7 +126,7 @@ module _ (T : Tables) where
 
     -- "each stored count inside the image"; where there is none, both numbers are zero
     unfoldable pub counterRule : ℕ → Bool
-    counterRule m = eqb (counter T g) 0 && eqb (T .slots group g 18) 0 || isType (counter T g) && insideRule m (counterPlace T g) (shapeOf (counter T g) .bytes)
+    counterRule m = eqb (counter T g) 0 && eqb (T .slots groupSection g 18) 0 || isType (counter T g) && insideRule m (counterPlace T g) (shapeOf (counter T g) .bytes)
 
     -- an axis has at most 256 points and no mask
     unfoldable pub axisRule : ℕ → Bool
@@ -136,11 +136,11 @@ module _ (T : Tables) where
     unfoldable pub valuesRule : Bool
     valuesRule =
         (eqb (walk T g) 0 || eqb (walk T g) 2) && (eqb (mask T g) 0 || maskRule (shapeOf (kind T g)) (mask T g))
-        && eqb (counter T g) 0 && eqb (T .slots group g 18) 0
+        && eqb (counter T g) 0 && eqb (T .slots groupSection g 18) 0
 
     -- "limits in order"
     unfoldable pub limitsRule : Bool
-    limitsRule = leb (T .slots group g 11) 1 && leb (T .slots group g 14) 1 && atMost (limit T g 11) (limit T g 14)
+    limitsRule = leb (T .slots groupSection g 11) 1 && leb (T .slots groupSection g 14) 1 && atMost (limit T g 11) (limit T g 14)
 
     -- "each element's bytes .. inside the image"
     unfoldable pub bytesRule : ℕ → Bool
@@ -152,60 +152,60 @@ module _ (T : Tables) where
 
     unfoldable pub partRule : ℕ → Bool
     partRule m =
-        isType (kind T g) && leb (T .slots group g 1) 1 && pointsRule && bytesRule m && roleRule m
-        && leb (methodOf T g) (T .counts method) && leb (T .slots group g 10) 1 && limitsRule
+        isType (kind T g) && leb (T .slots groupSection g 1) 1 && pointsRule && bytesRule m && roleRule m
+        && leb (methodOf T g) (T .counts methodSection) && leb (T .slots groupSection g 10) 1 && limitsRule
 
     unfoldable pub groupRule : ℕ → Bool
-    groupRule m = cond (eqb (kind T g) 0) noPart (partRule m)
+    groupRule m = cond (eqb (kind T g) 0) isNoPart (partRule m)
 
   -- "conversions .. as above"
   unfoldable pub verbalRule : ℕ → Bool
-  verbalRule i = allBelow 8 (λ k. eqb (T .slots method i (k + 1)) 0) && leb 1 (T .slots method i 9) && leb (T .slots method i 9) (T .counts table)
+  verbalRule i = allBelow 8 (λ k. eqb (T .slots methodSection i (k + 1)) 0) && leb 1 (T .slots methodSection i 9) && leb (T .slots methodSection i 9) (T .counts tableSection)
 
   unfoldable pub signsRule : ℕ → Bool
-  signsRule i = leb (T .slots method i 1) 1 && leb (T .slots method i 3) 1 && leb (T .slots method i 5) 1 && leb (T .slots method i 7) 1
+  signsRule i = leb (T .slots methodSection i 1) 1 && leb (T .slots methodSection i 3) 1 && leb (T .slots methodSection i 5) 1 && leb (T .slots methodSection i 7) 1
 
   unfoldable pub fractionRule : ℕ → Bool
   fractionRule i =
-      isFraction (T .slots method i 0) && signsRule i && sound (coefficients T i)
-      && wordRule (T .slots method i 0) (coefficients T i) && eqb (T .slots method i 9) 0
+      isFraction (T .slots methodSection i 0) && signsRule i && soundMethod (coefficients T i)
+      && wordRule (T .slots methodSection i 0) (coefficients T i) && eqb (T .slots methodSection i 9) 0
 
   unfoldable pub methodRule : ℕ → Bool
-  methodRule i = cond (isVerbal (T .slots method i 0)) (verbalRule i) (fractionRule i)
+  methodRule i = cond (isVerbal (T .slots methodSection i 0)) (verbalRule i) (fractionRule i)
 
   unfoldable pub tableRule : ℕ → ℕ → Bool
-  tableRule n i = leb (T .slots table i 0 + T .slots table i 1) (T .counts entry) && textRule n (T .slots table i 2) (T .slots table i 3)
+  tableRule n i = leb (T .slots tableSection i 0 + T .slots tableSection i 1) (T .counts entrySection) && textRule n (T .slots tableSection i 2) (T .slots tableSection i 3)
 
   unfoldable pub entryRule : ℕ → ℕ → Bool
-  entryRule n i = leb (T .slots entry i 0) 1 && textRule n (T .slots entry i 2) (T .slots entry i 3)
+  entryRule n i = leb (T .slots entrySection i 0) 1 && textRule n (T .slots entrySection i 2) (T .slots entrySection i 3)
 
   -- "4,096 elements in all objects", as many as the head says; edition and size mark have no meaning yet
   unfoldable pub headRule : Bool
   headRule =
-      eqb (T .counts head) 1 && eqb (T .slots head 0 0) 0 && eqb (T .slots head 0 1) 0
-      && eqb (total T) (sumBelow (T .counts group) (elements T)) && leb (total T) 4096 && eqb (T .counts group) (T .counts object * 3)
+      eqb (T .counts headSection) 1 && eqb (T .slots headSection 0 0) 0 && eqb (T .slots headSection 0 1) 0
+      && eqb (total T) (sumBelow (T .counts groupSection) (elements T)) && leb (total T) 4096 && eqb (T .counts groupSection) (T .counts objectSection * 3)
 
   unfoldable pub ruled : ℕ → ℕ → Bool
   ruled n m =
-      headRule && allBelow (T .counts object) (objectRule n) && allBelow (T .counts group) (λ g. groupRule g m)
-      && allBelow (T .counts method) methodRule && allBelow (T .counts table) (tableRule n) && allBelow (T .counts entry) (entryRule n)
+      headRule && allBelow (T .counts objectSection) (objectRule n) && allBelow (T .counts groupSection) (λ g. groupRule g m)
+      && allBelow (T .counts methodSection) methodRule && allBelow (T .counts tableSection) (tableRule n) && allBelow (T .counts entrySection) (entryRule n)
 
 -- "counts within capacity": the cell that counts section j's records
 unfoldable pub countFits : List ℕ → ℕ → Bool
-countFits t j = leb (getD t (baseIn sections j) 0) (mostOf sections j)
+countFits t j = leb (getD t (baseIn tableSections j) 0) (mostOf tableSections j)
 
 -- "no unused field other than zero": the cells of section j past its records
 abbrev pub unusedFrom : List ℕ → ℕ → ℕ
-unusedFrom t j = baseIn sections j + (1 + widthOf sections j * countIn t (sectionIn sections j))
+unusedFrom t j = baseIn tableSections j + (1 + widthOf tableSections j * countIn t (sectionIn tableSections j))
 
 abbrev pub unusedCells : List ℕ → ℕ → ℕ
-unusedCells t j = widthOf sections j * mostOf sections j - widthOf sections j * countIn t (sectionIn sections j)
+unusedCells t j = widthOf tableSections j * mostOf tableSections j - widthOf tableSections j * countIn t (sectionIn tableSections j)
 
 unfoldable pub unusedZero : List ℕ → ℕ → Bool
 unusedZero t j = allBelow (unusedCells t j) (λ k. eqb (getD t (unusedFrom t j + k) 0) 0)
 
 unfoldable pub formRule : List ℕ → Bool
-formRule t = allBelow (length sections) (λ j. countFits t j && unusedZero t j)
+formRule t = allBelow (length tableSections) (λ j. countFits t j && unusedZero t j)
 
 -- the cells t keep the table rule
 unfoldable pub keepsRule : ℕ → ℕ → List ℕ → Bool

@@ -2,7 +2,7 @@
 use records::Section;
 ghost use mathlib.Core.Path.{_≡_};
 ghost use Rattle.records.specs.Cells.{sectionIn, countIn, slotIn, addIn, putIn};
-ghost use Rattle.tables.specs.Form.{sections};
+ghost use Rattle.tables.specs.Form.{tableSections};
 
 // The sections.
 pub const HEAD: u8 = 0;
@@ -32,7 +32,7 @@ fn section(base: u32, width: u8, most: u16) -> Section
 
 // The section with the number j.
 pub fn section_of(j: u8) -> Section
-    ensures { λ r. ⌜ r ≡ sectionIn sections j ⌝ }
+    ensures { λ r. ⌜ r ≡ sectionIn tableSections j ⌝ }
 {
     match j {
         0 => section(0, 3, 1),
@@ -47,28 +47,28 @@ pub fn section_of(j: u8) -> Section
 
 // How many records section j has.
 pub fn count_of(t: &[u64], j: u8) -> u16
-    ensures { λ r. ⌜ r ≡ countIn (now (t .entry)) (sectionIn sections j) ⌝ }
+    ensures { λ r. ⌜ r ≡ countIn (now (t .entry)) (sectionIn tableSections j) ⌝ }
 {
     records::count(t, section_of(j))
 }
 
 // Number k of record i of section j.
 pub fn slot_of(t: &[u64], j: u8, i: u16, k: u16) -> u64
-    ensures { λ r. ⌜ r ≡ slotIn (now (t .entry)) (sectionIn sections j) i k ⌝ }
+    ensures { λ r. ⌜ r ≡ slotIn (now (t .entry)) (sectionIn tableSections j) i k ⌝ }
 {
     records::slot(t, section_of(j), i, k)
 }
 
 // Adds a record of zeros to section j where there is room.
 pub fn add_record(t: &mut [u64], j: u8)
-    ensures { λ _. ⌜ now (t .exit) ≡ addIn (now (t .entry)) (sectionIn sections j) ⌝ }
+    ensures { λ _. ⌜ now (t .exit) ≡ addIn (now (t .entry)) (sectionIn tableSections j) ⌝ }
 {
     records::add(t, section_of(j));
 }
 
 // Sets number k of record i of section j.
 pub fn put_slot(t: &mut [u64], j: u8, i: u16, k: u16, v: u64)
-    ensures { λ _. ⌜ now (t .exit) ≡ putIn (now (t .entry)) (sectionIn sections j) i k v ⌝ }
+    ensures { λ _. ⌜ now (t .exit) ≡ putIn (now (t .entry)) (sectionIn tableSections j) i k v ⌝ }
 {
     records::put(t, section_of(j), i, k, v);
 }

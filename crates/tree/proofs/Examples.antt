@@ -5,7 +5,7 @@ use Rattle.text.specs.Bytes.{spelt, isBlank, isAllowed, isLetter, isDigit, star
 use Rattle.text.specs.Blank.{lineEnd, commentEnd, blankAt, tokenEnds}
 use Rattle.text.specs.Token.{nameEnd, nameAt, stringEnd, stringAt, runEnd, numberAt, isBegin, isEnd, markAt, tokenAt, nextToken}
 use Rattle.words.specs.Row.{word, bytes, same, kindIn}
-use Rattle.words.specs.Table.{rows as words}
+use Rattle.words.specs.Table.{wordRows as words}
 use Rattle.words.specs.Class.{classOf, classAt}
 use Rattle.rows.specs.Sections.{sections}
 use Rattle.rows.specs.Rows.{rows, needed, rowCells, paramCells, limitCells, needCells, rowCell, paramCell, limitCell, needCell}

@@ -8,7 +8,7 @@ use lib.ListN.{length, take, drop}
 use Rattle.text.proofs.Within.{by-test, and-left, and-right}
 use Rattle.words.specs.Kind.{Kind, takenBlock, takenPlain, takenChoice, skippedBlock, skippedPlain, listedOnly, unlisted}
 use Rattle.words.specs.Row.{Row, row, word, same, kindIn}
-use Rattle.words.specs.Table.{rows}
+use Rattle.words.specs.Table.{wordRows}
 use Rattle.words.specs.Class.{classOf, classAt}
 
 -- the numbers of a class
@@ -25,8 +25,8 @@ abbrev allNumbered : List Row → Bool
 allNumbered [] = true
 allNumbered (row w k ∷ rs) = numbered k && allNumbered rs
 
-all-numbered : allNumbered rows ≡ true
-unfolding rows word
+all-numbered : allNumbered wordRows ≡ true
+unfolding wordRows word
 all-numbered = refl
 
 kind-numbered : (rs : List Row) → allNumbered rs ≡ true → (w : List ℕ) → numbered (kindIn rs w) ≡ true
@@ -36,7 +36,7 @@ kind-numbered (row v k ∷ rs) h w = by-test (λ t. numbered t ≡ true) (same v
 
 class-numbered : (x : List ℕ) (a e : ℕ) → numbered (classAt x a e) ≡ true
 unfolding classAt classOf
-class-numbered x a e = by-test (λ t. numbered t ≡ true) (leb a e && leb e (length x)) (λ t. kind-numbered rows all-numbered (take (e - a) (drop a x))) (λ t. refl)
+class-numbered x a e = by-test (λ t. numbered t ≡ true) (leb a e && leb e (length x)) (λ t. kind-numbered wordRows all-numbered (take (e - a) (drop a x))) (λ t. refl)
 
 module _ (x : List ℕ) (a e c : ℕ) where
   pub block-number : classAt x a e ≡ takenBlock c → leb c 10 ≡ true

@@ -4,7 +4,7 @@ use mathlib.Core.Path.{_≡_, refl}
 use mathlib.Core.List.{List, [], _∷_}
 use Rattle.words.specs.Kind.{Kind, takenBlock, takenPlain, takenChoice, skippedBlock, skippedPlain, listedOnly, unlisted, keywordCode, choiceCode}
 use Rattle.words.specs.Row.{word, bytes, same, kindIn}
-use Rattle.words.specs.Table.{rows}
+use Rattle.words.specs.Table.{wordRows}
 use Rattle.words.specs.Class.{classOf, classAt}
 
 -- a text, and its class
@@ -42,12 +42,12 @@ cases =
     ∷ []
 
 class-cases : classes cases ≡ wanted cases
-unfolding classes wanted cases classOf kindIn same rows word bytes
+unfolding classes wanted cases classOf kindIn same wordRows word bytes
 class-cases = refl
 
 -- between two places, and past the end
 inside : classAt (bytes "/begin MODULE x") 7 13 ≡ takenBlock 2
-unfolding classAt classOf kindIn same rows word bytes
+unfolding classAt classOf kindIn same wordRows word bytes
 inside = refl
 
 outside : classAt (bytes "MODULE") 0 7 ≡ unlisted
@@ -56,5 +56,5 @@ outside = refl
 
 -- codes by their texts
 codes : keywordCode (classOf (bytes "COMPU_VTAB")) ∷ keywordCode (classOf (bytes "UBYTE")) ∷ choiceCode (classOf (bytes "UBYTE")) ∷ choiceCode (classOf (bytes "LINEAR")) ∷ [] ≡ 5 ∷ 0 ∷ 1 ∷ 20 ∷ []
-unfolding keywordCode choiceCode classOf kindIn same rows word bytes
+unfolding keywordCode choiceCode classOf kindIn same wordRows word bytes
 codes = refl

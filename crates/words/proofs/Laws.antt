@@ -9,7 +9,7 @@ use lib.Dec.{eqb}
 use lib.ListN.{length, take, drop}
 use Rattle.words.specs.Kind.{Kind, unlisted, keywordCode, choiceCode}
 use Rattle.words.specs.Row.{Row, row, word, bytes, same, kindIn}
-use Rattle.words.specs.Table.{rows}
+use Rattle.words.specs.Table.{wordRows}
 use Rattle.words.specs.Class.{classOf, classAt}
 use Rattle.words.proofs.Lengths.{both}
 
@@ -28,8 +28,8 @@ once [] = true
 once (row v k ∷ rs) = not (stands v rs) && once rs
 
 -- no word stands twice
-pub words-once : once rows ≡ true
-unfolding once stands same rows word bytes
+pub words-once : once wordRows ≡ true
+unfolding once stands same wordRows word bytes
 words-once = refl
 
 -- whether a code, by a reading f of the kinds, stands in rows; and whether none above 0 stands twice
@@ -90,9 +90,9 @@ module _ (f : Kind → ℕ) (zero-out : f unlisted ≡ 0) (c : ℕ) (some : 0 < 
 
 -- a keyword's code belongs to one word, and a choice's too
 pub keyword-one : (v w : List ℕ) (c : ℕ) → 0 < c → keywordCode (classOf v) ≡ c → keywordCode (classOf w) ≡ c → v ≡ w
-unfolding classOf keywordCode codesOnce codeStands rows word bytes
-keyword-one v w c h d e = one-word keywordCode refl c h rows v w refl d e
+unfolding classOf keywordCode codesOnce codeStands wordRows word bytes
+keyword-one v w c h d e = one-word keywordCode refl c h wordRows v w refl d e
 
 pub choice-one : (v w : List ℕ) (c : ℕ) → 0 < c → choiceCode (classOf v) ≡ c → choiceCode (classOf w) ≡ c → v ≡ w
-unfolding classOf choiceCode codesOnce codeStands rows word bytes
-choice-one v w c h d e = one-word choiceCode refl c h rows v w refl d e
+unfolding classOf choiceCode codesOnce codeStands wordRows word bytes
+choice-one v w c h d e = one-word choiceCode refl c h wordRows v w refl d e

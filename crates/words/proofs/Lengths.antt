@@ -9,7 +9,7 @@ use lib.Dec.{eqb, leb}
 use lib.ListN.{length}
 use Rattle.words.specs.Kind.{Kind, unlisted}
 use Rattle.words.specs.Row.{Row, row, word, bytes, same, kindIn}
-use Rattle.words.specs.Table.{rows}
+use Rattle.words.specs.Table.{wordRows}
 use Rattle.words.specs.Class.{classOf}
 
 pub both : (a b : Bool) → (a && b) ≡ true → (a ≡ true) × (b ≡ true)
@@ -66,5 +66,5 @@ too-long m (row v k ∷ rs) w t l =
     long-turn v w k (kindIn rs w) (same v w) refl (omega arith) (too-long m rs w (p .1) l)
 
 pub longest : (w : List ℕ) → 28 < length w → classOf w ≡ unlisted
-unfolding classOf allWithin rows word bytes
-longest w l = too-long 28 rows w refl l
+unfolding classOf allWithin wordRows word bytes
+longest w l = too-long 28 wordRows w refl l

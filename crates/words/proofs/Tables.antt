@@ -12,7 +12,7 @@ use mir.Syntax.{w64}
 use mir.Val.{Fits}
 use Rattle.words.specs.Kind.{Kind}
 use Rattle.words.specs.Row.{Row, row, bytes, same, kindIn}
-use Rattle.words.specs.Table.{rows}
+use Rattle.words.specs.Table.{wordRows}
 use Rattle.words.specs.Class.{classOf}
 use Rattle.words.specs.Inner.{kindOf, sought, span, Rise, Ruled}
 use Rattle.words.proofs.Lengths.{both, ofLength, among}
@@ -91,7 +91,7 @@ span-length index n l r = simp (length-take, length-drop) (omega (arith, r .low,
 -- the rule at k lengths, by tests and one comparison that antt computes
 pub ruled : (first k : ℕ) (words classes before shorter : List ℕ) → length before ≡ k + 1 → length shorter ≡ length before → length classes ≤ 258 →
     rising k before (length words) ≡ true → rising k shorter (length classes) ≡ true → stepping first k before shorter ≡ true →
-    upTo k (λ (i : ℕ). made (first + i) (span before i words) (span shorter i classes)) ≡ upTo k (λ (i : ℕ). ofLength (first + i) rows) →
+    upTo k (λ (i : ℕ). made (first + i) (span before i words) (span shorter i classes)) ≡ upTo k (λ (i : ℕ). ofLength (first + i) wordRows) →
     Ruled first words classes before shorter
 unfolding classOf
 ruled first k words classes before shorter l o m p q e t = record {
@@ -103,8 +103,8 @@ ruled first k words classes before shorter l o m p q e t = record {
   right = λ i h w x.
       found w (first + i) (span before i words) (span shorter i classes)
       ∙ ap (λ (rs : List Row). kindIn rs w)
-      (at-length k (λ (j : ℕ). made (first + j) (span before j words) (span shorter j classes)) (λ (j : ℕ). ofLength (first + j) rows) t i (omega arith))
-      ∙ among (first + i) rows w x;
+      (at-length k (λ (j : ℕ). made (first + j) (span before j words) (span shorter j classes)) (λ (j : ℕ). ofLength (first + j) wordRows) t i (omega arith))
+      ∙ among (first + i) wordRows w x;
 }
 
 -- what the code asks of its tables

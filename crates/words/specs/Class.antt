@@ -6,10 +6,10 @@ use lib.Dec.{leb}
 use lib.ListN.{length, take, drop}
 use Rattle.words.specs.Kind.{Kind, unlisted}
 use Rattle.words.specs.Row.{kindIn}
-use Rattle.words.specs.Table.{rows}
+use Rattle.words.specs.Table.{wordRows}
 
 unfoldable pub classOf : List ℕ → Kind
-classOf w = kindIn rows w
+classOf w = kindIn wordRows w
 
 -- the bytes from the first place to the one before the second; where the places leave the bytes there is no word
 unfoldable pub classAt : List ℕ → ℕ → ℕ → Kind

@@ -4,8 +4,8 @@ use mathlib.Core.List.{List, [], _∷_}
 use Rattle.words.specs.Kind.{Kind, takenBlock, takenPlain, takenChoice, skippedBlock, skippedPlain, listedOnly}
 use Rattle.words.specs.Row.{Row, word}
 
-unfoldable pub rows : List Row
-rows =
+unfoldable pub wordRows : List Row
+wordRows =
     word "A2ML" (skippedBlock 29)
     ∷ word "A2ML_VERSION" (skippedPlain 41)
     ∷ word "ABSOLUTE" listedOnly

@@ -8,7 +8,7 @@ use Rattle.build.specs.Build.{methodRow}
 use Rattle.build.proofs.RowLaws.{Rowing, rowings}
 
 abbrev Inv-loop : tie.InvT-loop
-Inv-loop u₀ x t count i₀ u i = Rowing u₀ form.method (viewIn t .counts method) (methodRow x (viewIn t)) i u
+Inv-loop u₀ x t count i₀ u i = Rowing u₀ form.methodSection (viewIn t .counts method) (methodRow x (viewIn t)) i u
 
 abbrev μ-loop : tie.MeasureT-loop
 μ-loop u₀ x t count i₀ u i = count - i

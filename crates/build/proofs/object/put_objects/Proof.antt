@@ -8,7 +8,7 @@ use Rattle.build.specs.Build.{objectRow}
 use Rattle.build.proofs.RowLaws.{Rowing, rowings}
 
 abbrev Inv-loop : tie.InvT-loop
-Inv-loop u₀ t count i₀ u i = Rowing u₀ form.object (viewIn t .counts object) (objectRow (viewIn t)) i u
+Inv-loop u₀ t count i₀ u i = Rowing u₀ form.objectSection (viewIn t .counts object) (objectRow (viewIn t)) i u
 
 abbrev μ-loop : tie.MeasureT-loop
 μ-loop u₀ t count i₀ u i = count - i

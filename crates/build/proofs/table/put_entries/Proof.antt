@@ -8,7 +8,7 @@ use Rattle.build.specs.Build.{entryRow}
 use Rattle.build.proofs.RowLaws.{Rowing, rowings}
 
 abbrev Inv-loop : tie.InvT-loop
-Inv-loop u₀ t count i₀ u i = Rowing u₀ form.entry (viewIn t .counts entry) (entryRow (viewIn t)) i u
+Inv-loop u₀ t count i₀ u i = Rowing u₀ form.entrySection (viewIn t .counts entry) (entryRow (viewIn t)) i u
 
 abbrev μ-loop : tie.MeasureT-loop
 μ-loop u₀ t count i₀ u i = count - i

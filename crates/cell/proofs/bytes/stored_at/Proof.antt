@@ -3,7 +3,7 @@ use mathlib.Core.Path.{_≡_, sym, ap, _∙_}
 use Prim.Native.Nat.{ℕ, _≤_, _<_, _+_, _*_, _-_, _^_}
 use native.Mathlib.Omega.{arith}
 use lib.ListN.{take, drop, getD}
-use Rattle.cell.specs.Bytes.{number, placeOf}
+use Rattle.cell.specs.Bytes.{number, bytePlace}
 use Rattle.cell.proofs.Stored.{top, top-none, top-all, top-more, small, grows, place-in}
 use Rattle.cell.proofs.bytes.stored_at.Statement.{statement}
 use Rattle.cell.proofs.bytes.stored_at.Tie as tie
@@ -52,7 +52,7 @@ loop-again c =
     let t = a .args in (
       omega arith,
       ap (λ (k : ℕ). l .n * 256 + getD (t .s .now) k 0) (c .before .place .ensures)
-          ∙ ap (λ (k : ℕ). k * 256 + getD (t .s .now) (placeOf (t .first) (t .at) (t .width) (l .i)) 0) (l .inv .1)
+          ∙ ap (λ (k : ℕ). k * 256 + getD (t .s .now) (bytePlace (t .first) (t .at) (t .width) (l .i)) 0) (l .inv .1)
           ∙ sym (top-more (t .first) (t .at) (t .width) (l .i) (t .s .now) (a .pre .1) (c .before .before .loop-test .taken)),
       grows (l .i) (l .n) (getD (t .s .now) (c .before .place .result) 0) (l .inv .2) (c .shared-slice-known2 .given (c .before .place .result) .fits),
     )

@@ -3,7 +3,7 @@ use Rattle.listing.proofs.listing.put_elements.Tie as tie
 use Prim.Native.Nat.{ℕ, _+_, _-_, _<_}
 use mathlib.Core.Path.{_≡_, ap}
 use native.Mathlib.Omega.{arith}
-use Rattle.tables.specs.Form.{group, tablesIn}
+use Rattle.tables.specs.Form.{groupSection, tablesIn}
 use Rattle.tables.specs.Group.{elements, sumBelow}
 use Rattle.listing.specs.Listing.{columns}
 use Rattle.listing.proofs.ListingLaws.{uptos, Upto, upto-left, upto-line}
@@ -25,7 +25,7 @@ add-k c =
     let b = c .before .before .before .before .before in
     let s = b .before .before .before .before .before .before .before .before in
     let h = ahead b (omega arith) in
-    let n : b .before .before .before .count-of .result ≡ tablesIn (s .args .t .now) .counts group = b .before .before .before .count-of .ensures in
+    let n : b .before .before .before .count-of .result ≡ tablesIn (s .args .t .now) .counts groupSection = b .before .before .before .count-of .ensures in
     let m = s .pre .2 in
     omega (arith, ap (λ (j : ℕ). sumBelow j (elements (tablesIn (s .args .t .now)))) n)
 

@@ -6,13 +6,13 @@ use Prim.Native.Nat.{_+_, _-_, _<_}
 use mathlib.Core.Path.{refl}
 use native.Mathlib.Omega.{arith}
 use Rattle.words.specs.Row.{word, bytes}
-use Rattle.words.specs.Table.{rows}
+use Rattle.words.specs.Table.{wordRows}
 use Rattle.words.specs.Inner.{kindOf}
 use Rattle.words.proofs.Lengths.{ofLength}
 use Rattle.words.proofs.Tables.{rising, stepping, upTo, made, ruled}
 
 number-in-requires : tie.Need-number-in-requires
-unfolding rising stepping upTo made ofLength rows word bytes kindOf
+unfolding rising stepping upTo made ofLength wordRows word bytes kindOf
 number-in-requires c κs =
     let a = c .before .before .before .before .before .pre in
     let l : c .before .before .before .before .before .args .n - 13 + 1 < 17 = omega arith in

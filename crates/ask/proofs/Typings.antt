@@ -21,7 +21,8 @@ use Rattle.number.specs.Whole.{wholeFrom, wholeOf}
 use Rattle.number.specs.Told.{toldWhole}
 use Rattle.number.specs.declared.whole.WholeAnswer.{WholeAnswer}
 use Rattle.number.specs.declared.whole.WholeAnswer.the-variants as whole
-use Rattle.ask.specs.Typed.{partOf, mostTyped, signedOf, withSign, rawTyped}
+use Rattle.number.specs.Signed.{signedOf, mostSigned}
+use Rattle.ask.specs.Typed.{partOf, withSign, rawTyped}
 
 -- ---- a part's letter
 module _ (s : List ℕ) where
@@ -71,48 +72,6 @@ module _ (s : List ℕ) (most : ℕ) where
 
 pub ruleset digit-runs = (digits-x, digits-short, digits-other, needs)
 
--- ---- a number of a size, with or without a minus: -1 less one less than a size is the number below zero
-less : (m : ℕ) → negsuc 0 -ℤ pos m ≡ negsuc m
-less zero = refl
-less (suc m) = ap negsuc (omega arith)
-
-module _ (n : ℕ) where
-  pub above-fits : (b : Bool) → n ≤ mostTyped b → b ≡ false → SFits w64 (pos n)
-  above-fits false h e = record { sfits = omega arith }
-  above-fits true h e = let z : _≡_ {A = ℕ} 0 1 = cc in absurd (omega arith)
-
-  pub above-is : (b : Bool) → n ≤ mostTyped b → b ≡ false → toZ w64 n ≡ signedOf b n
-  above-is false h e = toZ-pos w64 (omega arith)
-  above-is true h e = let z : _≡_ {A = ℕ} 0 1 = cc in absurd (omega arith)
-
-  pub nought-is : (b : Bool) → b ≡ true → n ≡ 0 → pos 0 ≡ signedOf b n
-  nought-is true e z = rw z
-  nought-is false e z = let y : _≡_ {A = ℕ} 0 1 = cc in absurd (omega arith)
-
-most-below : (n : ℕ) (b : Bool) → n ≤ mostTyped b → n ≤ 2 ^ 63
-most-below n true h = h
-most-below n false h = omega arith
-
-module _ (n : ℕ) (b : Bool) (h : n ≤ mostTyped b) (g : n ≡ 0 → ⊥) where
-  one-less : negsuc 0 -ℤ toZ w64 (n - 1) ≡ negsuc (n - 1)
-  one-less = let l = most-below n b h in let p : n - 1 < 2 ^ 63 = omega arith in rw (toZ-pos w64 p) (less (n - 1))
-
-  pub below-cast : SFits w64 (pos (n - 1))
-  below-cast = let l = most-below n b h in record { sfits = omega arith }
-
-  pub below-fits : SFits w64 (negsuc 0 -ℤ toZ w64 (n - 1))
-  below-fits = let l = most-below n b h in rw one-less (record { sfits = omega arith })
-
-  signed : (m : ℕ) (t : Bool) → t ≡ true → (m ≡ 0 → ⊥) → negsuc (m - 1) ≡ signedOf t m
-  signed zero t e f = absurd (f refl)
-  signed (suc m) true e f = ap negsuc (omega arith)
-  signed (suc m) false e f = let z : _≡_ {A = ℕ} 0 1 = cc in absurd (omega arith)
-
-  pub below-is : b ≡ true → toZ w64 (ofZ w64 (negsuc 0 -ℤ toZ w64 (n - 1))) ≡ signedOf b n
-  below-is e = toZ-ofZ below-fits ∙ one-less ∙ signed n b e g
-
-pub ruleset with-signs = (above-fits, above-is, nought-is, below-cast, below-fits, below-is, needs)
-
 -- ---- a size with its sign
 most-turn : (a b c : Bool) (v n : ℕ) → (b ≡ true → v ≤ n) → (m : ℕ) → given m ≡ cond (a && b && c) (given v) (refused 2) → m ≤ n
 most-turn true true true v n f m e = let z : m ≡ v = cc in omega (arith, f refl)
@@ -125,7 +84,7 @@ unfolding wholeFrom
 at-most most m ds e = most-turn (allDigits 10 ds) (leb (valueOn 10 0 ds) most) (leb 1 (length ds)) (valueOn 10 0 ds) most (leb-true (valueOn 10 0 ds) most) m e
 
 -- the digits after the sign, to the end of the word
-pub size-is : (s : List ℕ) (neg : Bool) (at most : ℕ) (r : Answer ℕ) → at ≡ signs s → most ≡ mostTyped neg → r ≡ wholeFrom 10 most (take (length s - at) (drop at s)) → r ≡ wholeFrom 10 (mostTyped neg) (drop (signs s) s)
+pub size-is : (s : List ℕ) (neg : Bool) (at most : ℕ) (r : Answer ℕ) → at ≡ signs s → most ≡ mostSigned neg → r ≡ wholeFrom 10 most (take (length s - at) (drop at s)) → r ≡ wholeFrom 10 (mostSigned neg) (drop (signs s) s)
 size-is s neg at most r b c e =
     let l : length (drop at s) ≤ length s - at = omega (arith, length-drop at s) in
     let d : take (length s - at) (drop at s) ≡ drop at s = take-all (length s - at) (drop at s) l in
@@ -134,7 +93,7 @@ size-is s neg at most r b c e =
 pub ruleset sizes = (size-is, needs)
 
 -- r is what `size_of` gave
-module _ (s : List ℕ) (neg : Bool) (a : neg ≡ minus s) (r : WholeAnswer) (e : toldWhole r ≡ wholeFrom 10 (mostTyped neg) (drop (signs s) s)) where
+module _ (s : List ℕ) (neg : Bool) (a : neg ≡ minus s) (r : WholeAnswer) (e : toldWhole r ≡ wholeFrom 10 (mostSigned neg) (drop (signs s) s)) where
   typed : rawTyped s ≡ withSign neg (toldWhole r)
   unfolding rawTyped
   typed = rw (← a, e)
@@ -143,8 +102,8 @@ module _ (s : List ℕ) (neg : Bool) (a : neg ≡ minus s) (r : WholeAnswer) (e 
   raw-none k h = sym (typed ∙ ap (λ (x : WholeAnswer). withSign neg (toldWhole x)) h)
 
   module _ (n : ℕ) (h : r ≡ whole.Number n) where
-    pub raw-low : n ≤ mostTyped neg
-    raw-low = at-most (mostTyped neg) n (drop (signs s) s) (sym (ap toldWhole h) ∙ e)
+    pub raw-low : n ≤ mostSigned neg
+    raw-low = at-most (mostSigned neg) n (drop (signs s) s) (sym (ap toldWhole h) ∙ e)
 
     pub raw-given : (z : ℤ) → mag z < 2 ^ 63 → z ≡ signedOf neg n → given (toZ w64 (ofZ w64 z)) ≡ rawTyped s
     raw-given z l q = ap given (toZ-ofZ (record { sfits = l }) ∙ q) ∙ sym (typed ∙ ap (λ (x : WholeAnswer). withSign neg (toldWhole x)) h)

@@ -7,6 +7,7 @@ use lib.ListN.{length, getD, drop}
 use lib.Dec.{eqb}
 use Rattle.number.specs.Answer.{Answer, given, refused}
 use Rattle.number.specs.Decimal.{signs, minus}
+use Rattle.number.specs.Signed.{signedOf, mostSigned}
 use Rattle.number.specs.Whole.{wholeFrom}
 
 -- "Requests name an element by object number, part and index": x is 0, y is 1, v is 2; any other word is no part, 3.
@@ -16,16 +17,6 @@ partOf s =
     (cond (eqb (getD s 0 0) 120) 0 (cond (eqb (getD s 0 0) 121) 1 (cond (eqb (getD s 0 0) 118) 2 3)))
     3
 
--- the greatest size that an i64 has, with a minus and without
-abbrev pub mostTyped : Bool → ℕ
-mostTyped true = 2 ^ 63
-mostTyped false = 2 ^ 63 - 1
-
--- the number of a size, below zero where it has a minus
-abbrev pub signedOf : Bool → ℕ → ℤ
-signedOf true n = negℤ (pos n)
-signedOf false n = pos n
-
 abbrev pub withSign : Bool → Answer ℕ → Answer ℤ
 withSign negative (given n) = given (signedOf negative n)
 withSign negative (refused k) = refused 15
@@ -33,4 +24,4 @@ withSign negative (refused k) = refused 15
 -- A raw number is a whole number with an optional sign that an i64 holds: one sign at most, then decimal digits, one or more.
 -- Anything else, the empty word too, is 15.
 unfoldable pub rawTyped : List ℕ → Answer ℤ
-rawTyped s = withSign (minus s) (wholeFrom 10 (mostTyped (minus s)) (drop (signs s) s))
+rawTyped s = withSign (minus s) (wholeFrom 10 (mostSigned (minus s)) (drop (signs s) s))

@@ -5,9 +5,12 @@ ghost use lib.ListN.{length, drop};
 ghost use Rattle.number.specs.Decimal.{signs, minus};
 ghost use Rattle.number.specs.Told.{toldWhole};
 ghost use Rattle.number.specs.Whole.{wholeFrom};
-ghost use Rattle.ask.specs.Typed.{partOf, mostTyped, signedOf, rawTyped};
+ghost use Rattle.number.specs.Signed.{mostSigned};
+ghost use Rattle.ask.specs.Typed.{partOf, rawTyped};
 ghost use Rattle.ask.specs.Told.{toldTyped};
 use number::digits::NO_FORM;
+use number::signed::most_signed;
+use number::signed::with_sign;
 use number::whole::WholeAnswer;
 use runs::whole::whole_of;
 
@@ -26,13 +29,6 @@ const PLUS: u8 = 43;
 const MINUS: u8 = 45;
 
 const HEX_MARK: u8 = 120;
-
-// The greatest size of a number above zero and of one below.
-const MOST_ABOVE: u64 = 9223372036854775807;
-
-const MOST_BELOW: u64 = 9223372036854775808;
-
-const MINUS_ONE: i64 = -1;
 
 // A raw number, or a word that writes none.
 pub enum RawTyped {
@@ -79,31 +75,6 @@ fn is_minus(s: &[u8]) -> bool
     s[0] == MINUS
 }
 
-// The greatest size that an i64 has, with a minus or without.
-fn most_of(negative: bool) -> u64
-    ensures { λ r. ⌜ r ≡ mostTyped negative ⌝ }
-{
-    if negative {
-        return MOST_BELOW;
-    }
-    MOST_ABOVE
-}
-
-// The number of a size, with or without a minus.
-fn with_sign(negative: bool, n: u64) -> i64
-    requires { ⌜ n ≤ mostTyped negative ⌝ }
-    ensures { λ r. ⌜ r ≡ signedOf negative n ⌝ }
-{
-    if negative {
-        if n == 0 {
-            return 0;
-        }
-        let x = (n - 1) as i64;
-        return MINUS_ONE - x;
-    }
-    n as i64
-}
-
 // The whole number that decimal digits write, at most most.
 fn digits_of(s: &[u8], most: u64) -> WholeAnswer
     ensures { λ r. ⌜ toldWhole r ≡ wholeFrom 10 most (now (s .entry)) ⌝ }
@@ -119,10 +90,10 @@ fn digits_of(s: &[u8], most: u64) -> WholeAnswer
 
 // The size that a word writes after its sign, at most what an i64 has.
 fn size_of(s: &[u8], negative: bool) -> WholeAnswer
-    ensures { λ r. ⌜ toldWhole r ≡ wholeFrom 10 (mostTyped negative) (drop (signs (now (s .entry))) (now (s .entry))) ⌝ }
+    ensures { λ r. ⌜ toldWhole r ≡ wholeFrom 10 (mostSigned negative) (drop (signs (now (s .entry))) (now (s .entry))) ⌝ }
 {
     let at = sign_len(s);
-    digits_of(&s[at..], most_of(negative))
+    digits_of(&s[at..], most_signed(negative))
 }
 
 // The raw number that a word writes.

@@ -1,11 +1,15 @@
 -- What the one decision on data types says, by the ranges of codes that the code has; and no type has more than 4 bytes.
 use Prim.Native.Nat.{ℕ, zero, suc, _<_, _≤_}
 use mathlib.Core.Path.{_≡_, refl}
-use mathlib.Core.Bool.{false}
+use mathlib.Core.Bool.{false, _&&_}
 use native.Mathlib.Omega.{arith}
-use lib.Dec.{eqb}
+use lib.Dec.{eqb, leb}
 use Rattle.cell.specs.declared.kind.Shape.{Shape}
-use Rattle.cell.specs.Kind.{shapes, shapeOf}
+use Rattle.cell.specs.Kind.{isType, shapes, shapeOf}
+
+pub type-is : (k : ℕ) → (leb 1 k && leb k 6) ≡ isType k
+unfolding isType
+type-is k = refl
 
 pub shape-byte : (k : ℕ) → 1 ≤ k → k ≤ 2 → _≡_ {A = Shape} (record { bytes = 1; signed = eqb k 2; align = 1 }) (shapeOf k)
 unfolding shapeOf shapes

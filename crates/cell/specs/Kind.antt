@@ -1,7 +1,8 @@
 -- Data types, by code.
 use Prim.Native.Nat.{ℕ}
-use mathlib.Core.Bool.{Bool, true, false}
+use mathlib.Core.Bool.{Bool, true, false, _&&_}
 use mathlib.Core.List.{List, [], _∷_}
+use lib.Dec.{leb}
 use lib.ListN.{getD}
 use Rattle.cell.specs.declared.kind.Shape.{Shape}
 
@@ -30,6 +31,10 @@ ULONG = 5
 
 abbrev pub SLONG : ℕ
 SLONG = 6
+
+-- "Data types: UBYTE, SBYTE, UWORD, SWORD, ULONG, SLONG."
+unfoldable pub isType : ℕ → Bool
+isType k = leb UBYTE k && leb k SLONG
 
 -- "One decision gives size, sign and alignment for each data type: bytes 1, words 2, longs 4, signed in two's complement."
 -- By code, from 0 on: none, UBYTE, SBYTE, UWORD, SWORD, ULONG, SLONG.

@@ -1,6 +1,6 @@
 // Data types, by code. Any other code is none, and has no bytes.
 ghost use mathlib.Core.Path.{_≡_};
-ghost use Rattle.cell.specs.Kind.{shapeOf};
+ghost use Rattle.cell.specs.Kind.{isType, shapeOf};
 
 pub const UBYTE: u64 = 1;
 
@@ -19,6 +19,13 @@ pub struct Shape {
     pub bytes: usize,
     pub signed: bool,
     pub align: u8,
+}
+
+// Whether a code is a data type's.
+pub fn is_type(code: u64) -> bool
+    ensures { λ r. ⌜ r ≡ isType code ⌝ }
+{
+    (UBYTE <= code) & (code <= SLONG)
 }
 
 // The one decision on a data type.

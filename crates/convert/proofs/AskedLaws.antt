@@ -9,6 +9,7 @@ use borrow.Author.Needs.{needs}
 use lib.IntN.{ℤ, natAbs, _+ℤ_, _*ℤ_}
 use mir.Syntax.{w64}
 use mir.Val.{SFits, toZ, ofZ}
+use Rattle.number.proofs.Signs.{under-most}
 use Rattle.number.specs.Answer.{Answer, given, refused}
 use Rattle.number.specs.Decimal.{Scaled, decimalOf}
 use Rattle.number.specs.Told.{scaled, toldDecimal}
@@ -22,7 +23,8 @@ use Rattle.cell.proofs.Signed.{Is, back, is-fits, is-back, is-read, is-mul, is-
 use Rattle.convert.specs.declared.method.Coefficients.{Coefficients}
 use Rattle.convert.specs.declared.asked.RawAnswer.{RawAnswer}
 use Rattle.convert.specs.declared.asked.RawAnswer.the-variants as raw
-use Rattle.convert.specs.Whole.{signedOf, allSmall, Small}
+use Rattle.number.specs.Signed.{signedOf, mostSigned}
+use Rattle.convert.specs.Whole.{allSmall, Small}
 use Rattle.convert.specs.Limit.{atMost}
 use Rattle.convert.specs.Round.{Halves, away, nearest, rawFor}
 use Rattle.convert.specs.Asked.{fittingRaw, askedOf, nearestRaw, askedRaw}
@@ -67,7 +69,10 @@ module _ (up : Halves) (k : Coefficients) (p q : ℤ) (s : Small k) (hp : natAbs
       ap given (r ∙ e ∙ ap₂ (nearest up) (is-back over tt .same) (is-back under tt .same))
       ∙ quotient-is up (k .b *ℤ p +ℤ k .c *ℤ q) (k .e *ℤ p +ℤ k .f *ℤ q) (is-nonzero under h)
 
--- ---- a decimal's two numbers: y is what the machine reads back of z, and r is 10^t
+-- ---- a decimal's two numbers: either sign has room; y is what the machine reads back of z, and r is 10^t
+pub asked-signed : (n : ℕ) (negative : Bool) → n ≤ 1000000000 → n ≤ mostSigned negative
+asked-signed n negative h = under-most n negative (omega arith)
+
 pub over-size : (negative : Bool) (n : ℕ) (y z : ℤ) → z ≡ signedOf negative n → y ≡ z → n ≤ 1000000000 → natAbs y ≤ 1000000000
 over-size negative n y z e r h = omega (arith, ap natAbs (r ∙ e), abs-signed negative n)
 
@@ -124,4 +129,4 @@ module _ (lower upper : Scaled) (k : Coefficients) (t : Shape) (mask : ℕ) (s :
       unfolding askedRaw askedOf
       asked-is o p q = q ∙ ap (fittingRaw t mask) p ∙ rw (is, le-leb (d .whole) 1000000000 h, sym test ∙ o)
 
-pub ruleset askeds = (product-fits, worked-fits, worked-size, worked-some, raw-none, raw-is, small-told, over-size, under-size, ten-fits, near-is, near-none, fitting-is, fitting-not, fitting-refused, asked-formless, asked-tens, asked-large, asked-outside, asked-is, needs)
+pub ruleset askeds = (asked-signed, product-fits, worked-fits, worked-size, worked-some, raw-none, raw-is, small-told, over-size, under-size, ten-fits, near-is, near-none, fitting-is, fitting-not, fitting-refused, asked-formless, asked-tens, asked-large, asked-outside, asked-is, needs)

@@ -15,7 +15,8 @@ use Rattle.cell.specs.declared.kind.Shape.{Shape}
 use Rattle.cell.specs.Raw.{fitsRaw}
 use Rattle.cell.proofs.Types.{clash}
 use Rattle.convert.specs.declared.method.Coefficients.{Coefficients}
-use Rattle.convert.specs.Whole.{signedOf, eqZ, allSmall}
+use Rattle.number.specs.Signed.{signedOf}
+use Rattle.convert.specs.Whole.{eqZ, allSmall}
 use Rattle.convert.specs.Limit.{withinLimits}
 use Rattle.convert.specs.Method.{sameProducts}
 use Rattle.convert.specs.Fraction.{number, turned, fraction, fractionOf}

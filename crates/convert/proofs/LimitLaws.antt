@@ -7,7 +7,7 @@ use lib.IntN.{ℤ}
 use lib.Signed.{leZ}
 use Rattle.number.specs.Told.{scaled}
 use Rattle.number.specs.declared.decimal.Decimal.{Decimal}
-use Rattle.convert.specs.Whole.{signedOf}
+use Rattle.number.specs.Signed.{signedOf}
 use Rattle.convert.specs.Limit.{formed, atMost}
 use Rattle.convert.proofs.Wholes.{left-true, right-true}
 use Rattle.convert.proofs.Limits.{formed-facts}

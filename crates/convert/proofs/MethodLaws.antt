@@ -14,7 +14,8 @@ use Rattle.number.specs.Told.{scaled}
 use Rattle.number.specs.declared.decimal.Decimal.{Decimal}
 use Rattle.cell.proofs.Signed.{Is, back, is-fits, is-back, is-read, is-mul, is-turn}
 use Rattle.convert.specs.declared.method.Coefficients.{Coefficients}
-use Rattle.convert.specs.Whole.{signedOf, allSmall, Small}
+use Rattle.number.specs.Signed.{signedOf}
+use Rattle.convert.specs.Whole.{allSmall, Small}
 use Rattle.convert.specs.Limit.{formed}
 use Rattle.convert.specs.Method.{sameProducts, soundMethod, judgedMethod, timesTen, common, four, ratFuncAt, ratFunc, linearAt, linearOf}
 use Rattle.convert.proofs.Wholes.{is-equal, sized, abs-signed, left-true, right-true, small-told, product-fits}

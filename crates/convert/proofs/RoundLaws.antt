@@ -11,7 +11,8 @@ use mir.Facts.{toZ-ofZ}
 use mir.Syntax.{w64}
 use mir.Val.{Fits, SFits}
 use Rattle.cell.proofs.Signed.{back}
-use Rattle.convert.specs.Whole.{signedOf}
+use Rattle.number.proofs.Signs.{under-most}
+use Rattle.number.specs.Signed.{signedOf}
 use Rattle.convert.specs.Round.{away, rounded, nearest}
 use Rattle.convert.proofs.Wholes.{sized}
 use Rattle.convert.proofs.Rounds.{rounded-down, rounded-up, rounded-le, nearest-neg, nearest-pos}
@@ -46,4 +47,4 @@ module _ (n d : ℤ) (m e r : ℕ) (em : m ≡ natAbs (back n)) (ee : e ≡ natA
   nearest-above y z h ez ey =
       ey ∙ ez ∙ (λ i. signedOf (ltZ (toZ-ofZ fd i) (pos 0)) (size-is i)) ∙ sym (nearest-pos n d (sym (ap (λ (x : ℤ). ltZ x (pos 0)) (toZ-ofZ fn)) ∙ h))
 
-pub ruleset rounds = (twice-fits, next-fits, rounded-down, rounded-up, size-below, size-some, rounded-fits, nearest-below, nearest-above, needs)
+pub ruleset rounds = (under-most, twice-fits, next-fits, rounded-down, rounded-up, size-below, size-some, rounded-fits, nearest-below, nearest-above, needs)

@@ -13,7 +13,7 @@ use lib.Signed.{ltZ, leZ}
 use Rattle.number.specs.Answer.{given, refused}
 use Rattle.cell.proofs.Signed.{abs-neg, abs-pos}
 use Rattle.cell.proofs.Types.{clash, not-below}
-use Rattle.convert.specs.Whole.{signedOf}
+use Rattle.number.specs.Signed.{signedOf}
 use Rattle.convert.specs.Round.{Halves, away, rounded, nearest, roundedQuotient}
 
 -- ---- what the code tests

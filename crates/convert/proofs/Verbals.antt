@@ -10,7 +10,8 @@ use lib.ListN.{length, getD, drop, length-drop, drop-of-length-le, List·getD-eq
 use lib.Seq.{drop-drop, drop-length}
 use lib.Signed.{ltZ}
 use Rattle.cell.proofs.Types.{clash, not-below}
-use Rattle.convert.specs.Whole.{signedOf, eqZ}
+use Rattle.number.specs.Signed.{signedOf}
+use Rattle.convert.specs.Whole.{eqZ}
 use Rattle.convert.specs.Fraction.{Value, text}
 use Rattle.convert.specs.Verbal.{textOf, defaultOf, placeIn, entryIn, entriesIn, verbalOf}
 

@@ -1,25 +1,15 @@
--- Signs and powers of ten: the code's branches as laws, which `search wholes` applies.
+-- Powers of ten: the code's branches as laws, which `search wholes` applies.
 use mathlib.Core.Path.{_≡_, ap, _∙_}
-use mathlib.Core.Bool.{Bool, true, false}
+use mathlib.Core.Bool.{Bool}
 use Prim.Native.Nat.{ℕ, _*_, _^_, _≤_, _<_}
 use native.Mathlib.Omega.{arith}
 use borrow.Author.Needs.{needs}
-use lib.IntN.{ℤ, pos, _-ℤ_}
+use lib.IntN.{ℤ}
 use mir.Syntax.{w64}
-use mir.Val.{Fits, SFits, toZ}
-use Rattle.cell.proofs.Signed.{back, is-fits, is-back, is-turn, is-cast}
-use Rattle.convert.specs.Whole.{signedOf}
+use mir.Val.{Fits}
+use Rattle.number.specs.Signed.{signedOf}
+use Rattle.number.proofs.Signs.{under-most}
 use Rattle.convert.proofs.Limits.{ten-product}
-
--- ---- a size with a sign
-pub turn-fits : (n : ℕ) → n < 2 ^ 63 → SFits w64 (pos 0 -ℤ toZ w64 n)
-turn-fits n h = is-fits (is-turn (is-cast n h)) tt
-
-pub sign-minus : (b : Bool) (n : ℕ) → n < 2 ^ 63 → b ≡ true → back (pos 0 -ℤ toZ w64 n) ≡ signedOf b n
-sign-minus b n h e = is-back (is-turn (is-cast n h)) tt .same ∙ rw e
-
-pub sign-none : (b : Bool) (n : ℕ) → n < 2 ^ 63 → b ≡ false → toZ w64 n ≡ signedOf b n
-sign-none b n h e = is-cast n h .same ∙ rw e
 
 -- ---- a power of ten
 pub ten-at : (n k r : ℕ) → n ≡ k → r ≡ 10 ^ k → r ≡ 10 ^ n
@@ -39,4 +29,4 @@ module _ (n t r : ℕ) (e : r ≡ 10 ^ t) where
   pub times-is : (b : Bool) (y z : ℤ) → z ≡ signedOf b (n * r) → y ≡ z → y ≡ signedOf b (n * 10 ^ t)
   times-is b y z p q = q ∙ p ∙ ap (λ (m : ℕ). signedOf b (n * m)) e
 
-pub ruleset wholes = (turn-fits, sign-minus, sign-none, ten-at, ten-last, times-small, times-fits, times-is, needs)
+pub ruleset wholes = (under-most, ten-at, ten-last, times-small, times-fits, times-is, needs)

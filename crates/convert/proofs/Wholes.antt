@@ -11,7 +11,8 @@ use mir.Syntax.{w64}
 use mir.Val.{SFits, ofZ}
 use Rattle.cell.proofs.Signed.{Is, back, is-fits, is-read, is-mul, returned, abs-neg}
 use Rattle.convert.specs.declared.method.Coefficients.{Coefficients}
-use Rattle.convert.specs.Whole.{signedOf, eqZ, small, allSmall, Small}
+use Rattle.number.specs.Signed.{signedOf}
+use Rattle.convert.specs.Whole.{eqZ, small, allSmall, Small}
 
 -- `x == y` of two computed numbers compares their bits
 pub same-bits : (z w : ℤ) → mag z < 2 ^ 63 → mag w < 2 ^ 63 → eqb (ofZ w64 z) (ofZ w64 w) ≡ eqZ z w

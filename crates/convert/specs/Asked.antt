@@ -9,7 +9,8 @@ use Rattle.number.specs.Decimal.{Scaled, decimalOf}
 use Rattle.cell.specs.declared.kind.Shape.{Shape}
 use Rattle.cell.specs.Raw.{fitsRaw}
 use Rattle.convert.specs.declared.method.Coefficients.{Coefficients}
-use Rattle.convert.specs.Whole.{signedOf, allSmall}
+use Rattle.number.specs.Signed.{signedOf}
+use Rattle.convert.specs.Whole.{allSmall}
 use Rattle.convert.specs.Limit.{withinLimits}
 use Rattle.convert.specs.Round.{Halves, away, rawFor}
 

@@ -4,7 +4,7 @@ use Prim.Native.Nat.{_*_, _^_}
 use lib.Dec.{leb}
 use lib.Signed.{leZ}
 use Rattle.number.specs.Decimal.{Scaled}
-use Rattle.convert.specs.Whole.{signedOf}
+use Rattle.number.specs.Signed.{signedOf}
 
 -- A decimal that a text can write: "1 to 10 digits in all, .. at most 6 digits after it".
 unfoldable pub formed : Scaled → Bool

@@ -5,7 +5,8 @@ use lib.IntN.{ℤ, pos, negℤ, _*ℤ_}
 use Rattle.number.specs.Answer.{Answer, given, refused}
 use Rattle.number.specs.Decimal.{Scaled}
 use Rattle.convert.specs.declared.method.Coefficients.{Coefficients}
-use Rattle.convert.specs.Whole.{signedOf, eqZ, allSmall}
+use Rattle.number.specs.Signed.{signedOf}
+use Rattle.convert.specs.Whole.{eqZ, allSmall}
 use Rattle.convert.specs.Limit.{formed}
 
 -- b·f = c·e

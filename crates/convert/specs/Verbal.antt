@@ -5,7 +5,8 @@ use Prim.Native.Nat.{ℕ, zero, suc, _^_}
 use lib.Dec.{eqb, ltb}
 use lib.IntN.{ℤ}
 use lib.ListN.{getD, drop}
-use Rattle.convert.specs.Whole.{signedOf, eqZ}
+use Rattle.number.specs.Signed.{signedOf}
+use Rattle.convert.specs.Whole.{eqZ}
 use Rattle.convert.specs.Fraction.{Value, none, text}
 
 -- A verbal entry: a number, and its text's first byte and the one past it.

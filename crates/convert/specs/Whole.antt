@@ -5,11 +5,6 @@ use lib.Dec.{eqb, leb}
 use lib.IntN.{ℤ, pos, negsuc, negℤ, natAbs}
 use Rattle.convert.specs.declared.method.Coefficients.{Coefficients}
 
--- The number of a size, below zero where it has a minus.
-abbrev pub signedOf : Bool → ℕ → ℤ
-signedOf true n = negℤ (pos n)
-signedOf false n = pos n
-
 -- Two whole numbers are the same.
 abbrev pub eqZ : ℤ → ℤ → Bool
 eqZ (pos a) (pos b) = eqb a b

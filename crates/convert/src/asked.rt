@@ -13,11 +13,11 @@ use crate::method::Coefficients;
 use crate::method::all_small;
 use crate::round::nearest_of;
 use crate::whole::ten;
-use crate::whole::with_sign;
 use cell::raw::fits_raw;
 use number::decimal::Decimal;
 use number::decimal::DecimalAnswer;
 use number::decimal::decimal_of;
+use number::signed::with_sign;
 
 // Refusals: outside its form, outside limits, no raw value exists, doesn't fit type or mask.
 pub const NO_FORM: u8 = 15;

@@ -3,8 +3,8 @@ ghost use mathlib.Core.Path.{_≡_};
 ghost use Prim.Native.Nat.{_<_, _^_};
 ghost use lib.IntN.{natAbs};
 ghost use Rattle.convert.specs.Round.{away, rounded, nearest};
-use crate::whole::with_sign;
 use cell::size::size;
+use number::signed::with_sign;
 
 // The size n/d rounded to the nearest whole number, halves up.
 fn rounded_of(n: u64, d: u64) -> u64

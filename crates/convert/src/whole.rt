@@ -1,27 +1,16 @@
-// What the conversions rest on: signs, powers of ten, and tests on decimals.
+// What the conversions rest on: powers of ten, and tests on decimals.
 ghost use mathlib.Core.Path.{_≡_};
 ghost use Prim.Native.Nat.{_≤_, _<_, _*_, _^_, max};
 ghost use Rattle.number.specs.Told.{scaled};
-ghost use Rattle.convert.specs.Whole.{signedOf};
+ghost use Rattle.number.specs.Signed.{signedOf};
 ghost use Rattle.convert.specs.Limit.{formed};
 use number::decimal::Decimal;
+use number::signed::with_sign;
 
 // The most that ten digits write, and the most digits after the point.
 const MOST_WHOLE: u64 = 9999999999;
 
 const MOST_TENS: u32 = 6;
-
-// The number of a size, with or without a minus.
-pub fn with_sign(negative: bool, n: u64) -> i64
-    requires { ⌜ n < 2 ^ 63 ⌝ }
-    ensures { λ r. ⌜ r ≡ signedOf negative n ⌝ }
-{
-    let x = n as i64;
-    if negative {
-        return 0 - x;
-    }
-    x
-}
 
 // A power of ten.
 pub fn ten(n: u32) -> u64

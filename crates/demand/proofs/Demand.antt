@@ -22,7 +22,8 @@ use Rattle.number.specs.Answer.{Answer, given, refused}
 use Rattle.cell.specs.Bytes.{storedAt}
 use Rattle.cell.specs.Mask.{outside}
 use Rattle.tables.specs.Form.{tablesIn, total, first, mask}
-use Rattle.tables.specs.Group.{groupOf, elements, bytes, sumBelow}
+use Rattle.number.specs.Below.{sumBelow}
+use Rattle.tables.specs.Group.{groupOf, elements, bytes}
 use Rattle.tables.specs.Rule.{keepsRule}
 use Rattle.tables.specs.Sizes.{sizesFit}
 use Rattle.text.proofs.Within.{and-right}

@@ -9,7 +9,8 @@ use lib.IntN.{ℤ, pos, negsuc, natAbs}
 use lib.ListN.{length, getD, length-append, length-take, length-drop}
 use Rattle.number.specs.Answer.{given, refused}
 use Rattle.tables.specs.Form.{objectSection, groupSection, tablesIn}
-use Rattle.tables.specs.Group.{elements, sumBelow}
+use Rattle.number.specs.Below.{sumBelow}
+use Rattle.tables.specs.Group.{elements}
 use Rattle.look.specs.Calls.{Kept, checked, hasRoom, lentBy}
 use Rattle.print.specs.Print.{figuresOf, signed, slice}
 use Rattle.listing.specs.Print.{physical, line, header}

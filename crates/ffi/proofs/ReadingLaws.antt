@@ -21,7 +21,8 @@ use Rattle.look.specs.Told.{toldRead}
 use Rattle.look.specs.declared.read.ReadAnswer.{ReadAnswer}
 use Rattle.look.specs.declared.read.ReadAnswer.the-variants as read
 use Rattle.list.proofs.RefreshLaws.{put-past}
-use Rattle.ffi.specs.Numbers.{kindShown, numberShown, fiveOf, front, readCall, readTold}
+use Rattle.look.specs.Lines.{laidOver}
+use Rattle.ffi.specs.Numbers.{kindShown, numberShown, fiveOf, readCall, readTold}
 
 -- ---- what is shown
 module _ (s : Shown) where
@@ -53,7 +54,8 @@ pub one-put : (l a : List Float) (y : Float) (x : Shown) → a ≡ set l 0 y →
 one-put l a y x h e = h ∙ rw e
 
 -- stored from the front of a slice that has room
-front-put : {A : Type 0} (vs l : List A) → length vs ≤ length l → sets l 0 vs ≡ front vs l
+front-put : {A : Type 0} (vs l : List A) → length vs ≤ length l → sets l 0 vs ≡ laidOver vs l
+unfolding laidOver
 front-put vs l h = sets-eq vs l 0 (omega arith) ∙ rw zero-add
 
 -- ---- a read
@@ -79,8 +81,8 @@ module _ (a : Answer Reading) (l : List ℤ) (m : List Float) where
       unfolding readTold
       read-given l′ m′ raw y p s q r z =
           let u : given (record { raw = raw; value = p; display = toldShown s }) ≡ a = ap toldRead (sym q) ∙ e in
-          let v : l′ ≡ front (fiveOf raw p (toldShown s)) l = z .0 ∙ rw r (front-put (fiveOf raw p (toldShown s)) l h) in
-          let w : m′ ≡ front (numberShown (toldShown s) ∷ []) m = z .1 ∙ front-put (numberShown (toldShown s) ∷ []) m k in
+          let v : l′ ≡ laidOver (fiveOf raw p (toldShown s)) l = z .0 ∙ rw r (front-put (fiveOf raw p (toldShown s)) l h) in
+          let w : m′ ≡ laidOver (numberShown (toldShown s) ∷ []) m = z .1 ∙ front-put (numberShown (toldShown s) ∷ []) m k in
           rw (le-leb 5 (length l) h, le-leb 1 (length m) k, ← u, v, w)
 
 pub ruleset reads = (read-short, read-no-room, read-refused, read-given, needs)

@@ -14,6 +14,7 @@ use Rattle.load.specs.Load.{Loaded}
 use Rattle.load.specs.declared.LoadAnswer.{LoadAnswer}
 use Rattle.load.specs.declared.LoadAnswer.the-variants as load
 use Rattle.look.specs.Calls.{Reading, Kept, After, unless}
+use Rattle.look.specs.Lines.{laidOver}
 use Rattle.listing.specs.Listing.{Listed}
 use Rattle.listing.specs.declared.listing.ListingAnswer.{ListingAnswer}
 use Rattle.listing.specs.declared.listing.ListingAnswer.the-variants as listing
@@ -78,10 +79,6 @@ numberShown nothing = fin false 0 (pos 0)
 abbrev pub fiveOf : ℤ → Physical → Display → List ℤ
 fiveOf raw p d = raw ∷ pos (p .state) ∷ p .first ∷ p .second ∷ kindShown d ∷ []
 
--- numbers at the front of a lent slice, the rest untouched
-abbrev pub front : {A : Type 0} → List A → List A → List A
-front l out = l ++ drop (length l) out
-
 -- the number, and what the two lent slices hold
 pub record ReadCall : Type 0 where
   pub number : ℕ
@@ -93,7 +90,7 @@ readCall n out shown = record { number = n; out = out; shown = shown }
 
 -- "Answers 0, or 20, 22, 14": a refusal leaves both as they were
 abbrev pub readBy : Answer Reading → List ℤ → List Float → ReadCall
-readBy (given r) out shown = readCall 0 (front (fiveOf (r .raw) (r .value) (r .display)) out) (front (numberShown (r .display) ∷ []) shown)
+readBy (given r) out shown = readCall 0 (laidOver (fiveOf (r .raw) (r .value) (r .display)) out) (laidOver (numberShown (r .display) ∷ []) shown)
 readBy (refused n) out shown = readCall n out shown
 
 -- "out: 5 cells or more", "shown: 1 cell or more"; "20 comes first"

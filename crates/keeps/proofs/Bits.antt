@@ -4,9 +4,7 @@ use mathlib.Core.Path.{_≡_, refl, _∙_}
 use mathlib.Core.Bool.{Bool, true, false, cond, not, _&&_, _||_, false≢true}
 use native.Mathlib.Omega.{arith}
 use lib.Dec.{eqb}
-use Rattle.tables.specs.Rule.{allBelow}
-use Rattle.tables.specs.Group as tables
-use Rattle.objects.specs.Stage as objects
+use Rattle.number.specs.Below.{sumBelow, allBelow}
 use Rattle.build.specs.Build.{flag}
 
 pub and : {a b : Bool} → a ≡ true → b ≡ true → (a && b) ≡ true
@@ -51,13 +49,13 @@ all-threes (suc n) f h =
     let t = h n (omega arith) in
     rw e (and (and (and (all-threes n f (λ i l. h i (omega arith))) (t .0)) (rw a at (t .1))) (rw b at (t .2)))
 
-pub sum-threes : (n : ℕ) (f k : ℕ → ℕ) → ((i : ℕ) → i < n → k i ≡ f (i * 3) + f (i * 3 + 1) + f (i * 3 + 2)) → objects.sumBelow n k ≡ tables.sumBelow (n * 3) f
-unfolding tables.sumBelow objects.sumBelow
+pub sum-threes : (n : ℕ) (f k : ℕ → ℕ) → ((i : ℕ) → i < n → k i ≡ f (i * 3) + f (i * 3 + 1) + f (i * 3 + 2)) → sumBelow n k ≡ sumBelow (n * 3) f
+unfolding sumBelow
 sum-threes zero f k h = refl
 sum-threes (suc n) f k h =
     let e : suc n * 3 ≡ suc (suc (suc (n * 3))) = omega arith in
     let a : n * 3 + 1 ≡ suc (n * 3) = omega arith in
     let b : n * 3 + 2 ≡ suc (suc (n * 3)) = omega arith in
     let t : k n ≡ f (n * 3) + f (suc (n * 3)) + f (suc (suc (n * 3))) = h n (omega arith) ∙ rw (a, b) in
-    let s : objects.sumBelow n k ≡ tables.sumBelow (n * 3) f = sum-threes n f k (λ i l. h i (omega arith)) in
+    let s : sumBelow n k ≡ sumBelow (n * 3) f = sum-threes n f k (λ i l. h i (omega arith)) in
     rw e (omega arith)

@@ -26,7 +26,8 @@ use Rattle.place.specs.Walk.{placement}
 use Rattle.place.specs.declared.walk.Reached.{Reached}
 use Rattle.objects.specs.Object.{layoutOf, groundOf, needOf, maskFits, placesIn, judgeObject, placesOf, elementsOf}
 use Rattle.objects.specs.Stage as stage
-use Rattle.objects.specs.Stage.{turnsFrom, marked, turn, judgeEach, judgeAll, sumBelow}
+use Rattle.number.specs.Below.{sumBelow}
+use Rattle.objects.specs.Stage.{turnsFrom, marked, turn, judgeEach, judgeAll}
 use Rattle.objects.proofs.Shares.{Share, share}
 use Rattle.objects.proofs.Each.{In, Stands, judge-all-each}
 use Rattle.objects.proofs.Totals.{counted, sumOf, sum-marked, turns-below, sum-none, total-is, total-most}
@@ -35,7 +36,8 @@ use Rattle.facts.proofs.Keeps.{read-keeps}
 use Rattle.build.specs.Build.{built}
 use Rattle.build.proofs.BuiltLaws.{within-of}
 use Rattle.load.specs.Load.{described}
-use Rattle.keeps.specs.Accepted.{Among, allElements, Accepted, Taken}
+use Rattle.tree.specs.Tree.{Among}
+use Rattle.keeps.specs.Accepted.{allElements, Accepted, Taken}
 use Rattle.keeps.proofs.Rows.{converted}
 
 -- nothing is refused

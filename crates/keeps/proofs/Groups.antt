@@ -12,7 +12,7 @@ use lib.ListN.{length, getD}
 use Rattle.number.specs.Decimal.{Scaled}
 use Rattle.text.specs.Bytes.{spells}
 use Rattle.text.proofs.Within.{and-left, and-right, by-test}
-use Rattle.cell.specs.Kind.{shapeOf, shapes}
+use Rattle.cell.specs.Kind.{shapeOf, shapes, isType}
 use Rattle.cell.specs.Mask.{maskRule}
 use Rattle.convert.specs.Limit.{atMost}
 use Rattle.records.specs.Records.{count, slot}
@@ -28,12 +28,11 @@ use Rattle.place.specs.declared.order.Layout.{Layout}
 use Rattle.place.specs.declared.rules.Axis.{Axis}
 use Rattle.place.specs.declared.rules.Need.{Need}
 use Rattle.place.specs.declared.walk.Places.{Places}
-use Rattle.objects.specs.Object as objects
 use Rattle.objects.specs.Object.{part, layoutAt, measured, noEntry, layoutOf, layoutNumber, firstOf, groundOf, noAxis, axisAt, needOf, maskFits, placesOf, elementsOf}
 use Rattle.objects.proofs.Each.{find-below}
 use Rattle.tables.specs.Form.{groupSection, methodSection, Tables, tablesOf, kind}
 use Rattle.tables.specs.Group as groups
-use Rattle.tables.specs.Rule.{isType, groupRule}
+use Rattle.tables.specs.Rule.{groupRule}
 use Rattle.build.specs.Build.{methodNumber, methodIn, forbids, limitCells, meaning, valuesWalk, maskOf, whatOf, ofObject, ofAxis, xSource, xPart, yPart, valuesPart, xRow, yRow, valuesRow, knownOf, built}
 use Rattle.build.specs.declared.part.Source.{Source}
 use Rattle.build.proofs.BuiltLaws.{Within, within-of, count-methods, slot-x, slot-y, slot-values}
@@ -43,20 +42,9 @@ use Rattle.keeps.proofs.Stood.{need-modest, one-point, Stood}
 
 -- ---- data types
 
-shape-type : (k : ℕ) → objects.isType k ≡ true → isType k ≡ true
-unfolding objects.isType isType shapeOf shapes
-shape-type zero h = absurd (false≢true h)
-shape-type (suc zero) h = refl
-shape-type (suc (suc zero)) h = refl
-shape-type (suc (suc (suc zero))) h = refl
-shape-type (suc (suc (suc (suc zero)))) h = refl
-shape-type (suc (suc (suc (suc (suc zero))))) h = refl
-shape-type (suc (suc (suc (suc (suc (suc zero)))))) h = refl
-shape-type (suc (suc (suc (suc (suc (suc (suc k))))))) h = absurd (false≢true h)
-
 -- a layout has a part where there is a data type
 abbrev Typed : Entry → Type 0
-Typed e = e .present ≡ objects.isType (e .kind)
+Typed e = e .present ≡ isType (e .kind)
 
 pub record TypedAll (l : Layout) : Type 0 where
   pub values : Typed (l .values)
@@ -70,7 +58,7 @@ unfolding part
 part-typed v l p k = refl
 
 none-typed : Typed noEntry
-unfolding objects.isType shapeOf shapes
+unfolding isType
 none-typed = refl
 
 at-typed : (v : View) (l : ℕ) → TypedAll (layoutAt v l)
@@ -86,7 +74,7 @@ unfolding layoutOf
 layout-typed x v i = by-test TypedAll (eqb (v .slots records.object i 3) MEASUREMENT) (λ t. measured-typed (v .slots records.object i 4)) (λ t. at-typed v (layoutNumber x v i))
 
 pub present-type : (e : Entry) → Typed e → e .present ≡ true → isType (e .kind) ≡ true
-present-type e t h = shape-type (e .kind) (sym t ∙ h)
+present-type e t h = sym t ∙ h
 
 -- a part that is needed is there
 same-true : (a b : Bool) → same a b ≡ true → a ≡ true → b ≡ true

@@ -9,12 +9,12 @@ use borrow.Author.Tests.{le-leb, eq-eqb, ne-eqb, lt-ltb, le-ltb, leb-true}
 use lib.Dec.{eqb, leb}
 use lib.ListN.{getD, replicate}
 use Rattle.number.specs.Decimal.{Scaled}
-use Rattle.cell.specs.Kind.{shapeOf}
+use Rattle.cell.specs.Kind.{shapeOf, isType}
 use Rattle.cell.specs.Mask.{maskRule}
 use Rattle.convert.specs.Limit.{atMost}
 use Rattle.tables.specs.Form.{groupSection, methodSection, Tables, kind, place, x, y, wide, high, walk, methodOf, mask, counter, counterPlace, limit}
 use Rattle.tables.specs.Group.{elements, bytes}
-use Rattle.tables.specs.Rule.{isType, insideRule, isNoPart, pointsRule, counterRule, axisRule, valuesRule, limitsRule, bytesRule, roleRule, partRule, groupRule}
+use Rattle.tables.specs.Rule.{insideRule, isNoPart, pointsRule, counterRule, axisRule, valuesRule, limitsRule, bytesRule, roleRule, partRule, groupRule}
 use Rattle.tables.proofs.All.{left, all-of}
 use Rattle.build.specs.Build.{flag}
 use Rattle.keeps.proofs.Bits.{and, or-left, or-right, flag-least, flag-back}

@@ -14,7 +14,8 @@ use Rattle.text.proofs.Within.{and-left, and-right, by-test}
 use Rattle.number.specs.Answer.{Answer, given, refused}
 use Rattle.number.specs.Decimal.{Scaled}
 use Rattle.number.specs.Form.{isGiven}
-use Rattle.convert.specs.Whole.{signedOf, eqZ, small, allSmall}
+use Rattle.number.specs.Signed.{signedOf}
+use Rattle.convert.specs.Whole.{eqZ, small, allSmall}
 use Rattle.convert.specs.Limit.{formed}
 use Rattle.convert.proofs.Limits.{formed-facts}
 use Rattle.convert.specs.Method.{sameProducts, soundMethod, judgedMethod, ratFuncAt, ratFunc, linearAt, linearOf, identicalOf}
@@ -29,7 +30,8 @@ use Rattle.facts.specs.Facts.{Inside, Kept}
 use Rattle.objects.proofs.Each.{find-below}
 use Rattle.tables.specs.Form as form
 use Rattle.tables.specs.Form.{methodSection, tableSection, entrySection, Tables, tablesOf, coefficient}
-use Rattle.tables.specs.Rule.{anyBelow, linearRule, identicalRule, wordRule, isFraction, isVerbal, textRule, verbalRule, signsRule, fractionRule, methodRule, tableRule, entryRule}
+use Rattle.number.specs.Below.{anyBelow}
+use Rattle.tables.specs.Rule.{linearRule, identicalRule, wordRule, isFraction, isVerbal, textRule, verbalRule, signsRule, fractionRule, methodRule, tableRule, entryRule}
 use Rattle.tables.proofs.All.{all-of, any-at}
 use Rattle.build.specs.Build.{flag, isBelow, coefficientsIn, conversionOf, tableNumber, verbalRow, fractionRow, methodRow, entriesEnd, built}
 use Rattle.build.proofs.BuiltLaws.{Within, within-of, count-tables, count-entries, slot-method, slot-table, slot-entry}

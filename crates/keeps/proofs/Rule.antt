@@ -31,8 +31,9 @@ use Rattle.facts.proofs.Keeps.{read-keeps}
 use Rattle.tree.specs.Points.{Pointed}
 use Rattle.tree.proofs.Points.{read-pointed}
 use Rattle.tables.specs.Form.{tableSections, headSection, objectSection, groupSection, methodSection, tableSection, entrySection, Tables, tablesOf, total}
-use Rattle.tables.specs.Group.{sumBelow, elements}
-use Rattle.tables.specs.Rule.{allBelow, objectRule, groupRule, methodRule, tableRule, entryRule, headRule, ruled, keepsRule}
+use Rattle.number.specs.Below.{sumBelow, allBelow}
+use Rattle.tables.specs.Group.{elements}
+use Rattle.tables.specs.Rule.{objectRule, groupRule, methodRule, tableRule, entryRule, headRule, ruled, keepsRule}
 use Rattle.tables.proofs.All.{all-of}
 use Rattle.tables.proofs.Cells.{encode-keeps}
 use Rattle.build.specs.Build.{built}

@@ -13,17 +13,13 @@ use Rattle.grammar.specs.Move.{view}
 use Rattle.grammar.specs.Read.{read}
 use Rattle.refer.specs.Refer.{referenceRows, leads}
 use Rattle.refer.specs.declared.Row.{Row}
+use Rattle.tree.specs.Tree.{Among}
 use Rattle.methods.specs.Methods.{coefficients}
 use Rattle.place.specs.Judge.{allInside}
 use Rattle.place.specs.Walk.{placement}
 use Rattle.objects.specs.Object.{layoutOf, groundOf, needOf, maskFits, placesOf, elementsOf}
-use Rattle.objects.specs.Stage.{sumBelow}
+use Rattle.number.specs.Below.{sumBelow}
 use Rattle.build.specs.Build.{built}
-
--- a is one of them
-abbrev pub Among : {A : Type 0} → A → List A → Type 0
-Among a [] = ⊥
-Among a (b ∷ bs) = (a ≡ b) ⊎ Among a bs
 
 -- how many elements all objects have
 abbrev pub allElements : List ℕ → ℕ → List ℕ → List (List (List ℕ)) → ℕ

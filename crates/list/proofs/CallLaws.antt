@@ -13,7 +13,8 @@ use Rattle.convert.specs.Told.{toldRaw}
 use Rattle.convert.specs.declared.asked.RawAnswer.{RawAnswer}
 use Rattle.convert.specs.declared.asked.RawAnswer.the-variants as wanted
 use Rattle.tables.specs.Form.{tablesIn, total, kind, first, mask}
-use Rattle.tables.specs.Group.{groupOf, sumBelow, elements, bytes, placeOf}
+use Rattle.number.specs.Below.{sumBelow}
+use Rattle.tables.specs.Group.{groupOf, elements, bytes, placeOf}
 use Rattle.look.specs.Element.{pastRecords}
 use Rattle.look.specs.Calls.{checked, judgedElement, judgedRequest, Kept, kept, room, hasRoom, groups, remade, refreshed, After, afterwards, lentBy, making, Wanted, request, wantedRaw, stored, writtenTo, writing}
 use Rattle.look.specs.Steps.{picked, checkedNo, elementNo}

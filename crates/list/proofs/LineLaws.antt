@@ -9,8 +9,8 @@ use native.Mathlib.Numerals.{add-one}
 use native.Mathlib.Omega.{arith}
 use lib.ListN.{length, getD, set, drop, length-append, length-drop, List·getD-append}
 use lib.Seq.{drop-cons, set-append-seam, set-getD, getD-append-add, getD-drop, drop-append-seam, append-snoc, getD-at}
-use Rattle.tables.specs.Group.{sumBelow}
-use Rattle.look.specs.Lines.{part, lines, over, made, keep, fresh}
+use Rattle.number.specs.Below.{sumBelow}
+use Rattle.look.specs.Lines.{part, lines, laidOver, made, keep, fresh}
 
 -- ---- the lines before a group
 pub sum-more : (c : ℕ → ℕ) (g : ℕ) → sumBelow (g + 1) c ≡ sumBelow g c + c g
@@ -29,33 +29,33 @@ sum-in c g n l = sum-mono c (suc g) n l
 
 module _ {A : Type 0} where
   -- ---- one list laid over another
-  pub over-none : (l : List A) → l ≡ over [] l
-  unfolding over
+  pub over-none : (l : List A) → l ≡ laidOver [] l
+  unfolding laidOver
   over-none l = refl
 
-  pub length-over : (xs ys : List A) → length xs ≤ length ys → length (over xs ys) ≡ length ys
-  unfolding over
+  pub length-over : (xs ys : List A) → length xs ≤ length ys → length (laidOver xs ys) ≡ length ys
+  unfolding laidOver
   length-over xs ys h = simp (length-append, length-drop) (omega arith)
 
-  over-push : (xs ys : List A) (a d : A) → length xs < length ys → set (over xs ys) (length xs) a ≡ over (xs ++ a ∷ []) ys
-  unfolding over
+  over-push : (xs ys : List A) (a d : A) → length xs < length ys → set (laidOver xs ys) (length xs) a ≡ laidOver (xs ++ a ∷ []) ys
+  unfolding laidOver
   over-push xs ys a d h =
       rw (drop-cons ys (length xs) d) (set-append-seam xs (getD ys (length xs) d) (drop (suc (length xs)) ys) a
       ∙ (let e : length (xs ++ a ∷ []) ≡ suc (length xs) = simp length-append (omega arith) in rw e (sym (append-snoc xs a (drop (suc (length xs)) ys)))))
 
-  pub getD-over : (xs ys : List A) (j : ℕ) (d : A) → j < length xs → getD (over xs ys) j d ≡ getD xs j d
-  unfolding over
+  pub getD-over : (xs ys : List A) (j : ℕ) (d : A) → j < length xs → getD (laidOver xs ys) j d ≡ getD xs j d
+  unfolding laidOver
   getD-over xs ys j d h = List·getD-append xs (drop (length xs) ys) d j h
 
-  pub getD-over-past : (xs ys : List A) (j : ℕ) (d : A) → length xs ≤ j → getD (over xs ys) j d ≡ getD ys j d
-  unfolding over
+  pub getD-over-past : (xs ys : List A) (j : ℕ) (d : A) → length xs ≤ j → getD (laidOver xs ys) j d ≡ getD ys j d
+  unfolding laidOver
   getD-over-past xs ys j d h =
       let e : j ≡ length xs + (j - length xs) = omega arith in
       subst (λ (n : ℕ). getD (xs ++ drop (length xs) ys) n d ≡ getD ys n d) (sym e)
       (getD-append-add xs (drop (length xs) ys) (j - length xs) d ∙ getD-drop (length xs) ys (j - length xs) d)
 
-  pub over-over : (xs ys zs : List A) → length xs ≡ length ys → over xs (over ys zs) ≡ over xs zs
-  unfolding over
+  pub over-over : (xs ys zs : List A) → length xs ≡ length ys → laidOver xs (laidOver ys zs) ≡ laidOver xs zs
+  unfolding laidOver
   over-over xs ys zs e = rw (e, drop-append-seam)
 
   -- ---- the lines
@@ -95,14 +95,14 @@ module _ {A : Type 0} where
 
   -- one turn of the loop: line k is stored to, and the lines done are one more
   pub turn : (s : ℕ → ℕ → Bool) (w : ℕ → ℕ → A) (d : A) (c : ℕ → ℕ) (l₀ l l′ : List A) (g i k : ℕ) → k ≡ sumBelow g c + i → k < length l₀
-      → l ≡ over (upto (keep s w d l₀) c g i) l₀ → l′ ≡ set l k (cond (s g i) (w g i) (getD l k d)) → l′ ≡ over (upto (keep s w d l₀) c g (i + 1)) l₀
+      → l ≡ laidOver (upto (keep s w d l₀) c g i) l₀ → l′ ≡ set l k (cond (s g i) (w g i) (getD l k d)) → l′ ≡ laidOver (upto (keep s w d l₀) c g (i + 1)) l₀
   turn s w d c l₀ l l′ g i k e h p q =
       let n : length (upto (keep s w d l₀) c g i) ≡ k = length-upto (keep s w d l₀) c g i ∙ sym e in
       let r : getD l k d ≡ getD l₀ k d = rw (p, ← n) (getD-over-past (upto (keep s w d l₀) c g i) l₀ _ d (omega arith)) in
       q ∙ rw (r, p) (rw (upto-more (keep s w d l₀) c g i, ← e, ← n) (over-push (upto (keep s w d l₀) c g i) l₀ _ d (rw n h)))
 
   -- a column keeps its length over the loop
-  pub length-at : (f : ℕ → ℕ → ℕ → A) (c : ℕ → ℕ) (l₀ l : List A) (g i : ℕ) → sumBelow g c + i ≤ length l₀ → l ≡ over (upto f c g i) l₀ → length l ≡ length l₀
+  pub length-at : (f : ℕ → ℕ → ℕ → A) (c : ℕ → ℕ) (l₀ l : List A) (g i : ℕ) → sumBelow g c + i ≤ length l₀ → l ≡ laidOver (upto f c g i) l₀ → length l ≡ length l₀
   length-at f c l₀ l g i h e = rw e (length-over (upto f c g i) l₀ (rw length-upto h))
 
   -- ---- lines that agree, and a line by its place
@@ -151,9 +151,9 @@ module _ {A : Type 0} where
   unfolding fresh made
   fresh-made s w w′ d c n l h =
       let a = lines (λ g i k. w g i) c n in
-      over-over (lines (keep s w′ d (over a l)) c n) a l (length-lines _ c n ∙ sym (length-lines _ c n))
-      ∙ ap (λ (x : List A). over x l) (lines-ext (keep s w′ d (over a l)) (λ g i k. w′ g i) c n (λ g i p q.
-      cond-first (s g i) (w′ g i) (getD (over a l) (sumBelow g c + i) d) (λ e.
+      over-over (lines (keep s w′ d (laidOver a l)) c n) a l (length-lines _ c n ∙ sym (length-lines _ c n))
+      ∙ ap (λ (x : List A). laidOver x l) (lines-ext (keep s w′ d (laidOver a l)) (λ g i k. w′ g i) c n (λ g i p q.
+      cond-first (s g i) (w′ g i) (getD (laidOver a l) (sumBelow g c + i) d) (λ e.
       getD-over a l (sumBelow g c + i) d (rw length-lines (omega (arith, sum-in c g n p)))
       ∙ lines-at (λ g i k. w g i) c n g i d p q ∙ h g i p q e)))
 
@@ -161,7 +161,7 @@ module _ {A : Type 0} where
   pub fresh-all : (s : ℕ → ℕ → Bool) (w : ℕ → ℕ → A) (d : A) (c : ℕ → ℕ) (n : ℕ) (l : List A)
       → ((g i : ℕ) → g < n → i < c g → s g i ≡ true) → fresh s w d c n l ≡ made w c n l
   unfolding fresh made
-  fresh-all s w d c n l h = ap (λ (x : List A). over x l) (lines-ext (keep s w d l) (λ g i k. w g i) c n (λ g i p q. rw (h g i p q)))
+  fresh-all s w d c n l h = ap (λ (x : List A). laidOver x l) (lines-ext (keep s w d l) (λ g i k. w g i) c n (λ g i p q. rw (h g i p q)))
 
   -- the frame: a line that is not picked stays, and so does what stands past the lines
   pub fresh-else : (s : ℕ → ℕ → Bool) (w : ℕ → ℕ → A) (d : A) (c : ℕ → ℕ) (n : ℕ) (l : List A) (g i : ℕ) → g < n → i < c g

@@ -11,9 +11,10 @@ use lib.IntN.{ℤ, pos}
 use lib.ListN.{length, getD, set, length-set}
 use lib.Seq.{set-out}
 use Rattle.tables.specs.Form.{tablesIn}
-use Rattle.tables.specs.Group.{sumBelow, elements}
+use Rattle.number.specs.Below.{sumBelow}
+use Rattle.tables.specs.Group.{elements}
 use Rattle.look.specs.declared.element.Line.{Line}
-use Rattle.look.specs.Lines.{over, keep, fresh}
+use Rattle.look.specs.Lines.{laidOver, keep, fresh}
 use Rattle.look.specs.Element.{lineOf}
 use Rattle.look.specs.Calls.{Kept, kept, room, groups, remade, refreshed}
 use Rattle.look.specs.Steps.{putLine, putLines}
@@ -122,7 +123,7 @@ module _ (s : ℕ → ℕ → Bool) (t img : List ℕ) (k₀ : Kept) where
   counts = elements (tablesIn t)
 
   abbrev Column : {A : Type 0} → (ℕ → ℕ → A) → A → List A → List A → ℕ → ℕ → Type 0
-  Column w d l₀ l g i = l ≡ over (upto (keep s w d l₀) counts g i) l₀
+  Column w d l₀ l g i = l ≡ laidOver (upto (keep s w d l₀) counts g i) l₀
 
   pub record Refreshing (g i k : ℕ) (c : Kept) : Type 0 where
     pub within : g ≤ groups t
@@ -151,7 +152,7 @@ module _ (s : ℕ → ℕ → Bool) (t img : List ℕ) (k₀ : Kept) where
 
   module _ (g i k : ℕ) (c : Kept) (f : Refreshing g i k c) where
     next : {A : Type 0} (w : ℕ → ℕ → A) (d : A) (l₀ l : List A) → i ≡ counts g → Column w d l₀ l g i → Column w d l₀ l (g + 1) 0
-    next {A} w d l₀ l e h = h ∙ ap (λ (z : List A). over z l₀) (upto-next (keep s w d l₀) counts g i e)
+    next {A} w d l₀ l e h = h ∙ ap (λ (z : List A). laidOver z l₀) (upto-next (keep s w d l₀) counts g i e)
 
     pub refresh-next : (n m : ℕ) → n ≡ groups t → m ≡ counts g → g < n → m ≤ i → Refreshing (g + 1) 0 k c
     refresh-next n m pn pm lt h =

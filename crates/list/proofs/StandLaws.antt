@@ -15,7 +15,8 @@ use Rattle.cell.specs.declared.kind.Shape.{Shape}
 use Rattle.tables.specs.Form.{tablesIn, forbidden, counter, counterPlace}
 use Rattle.tables.specs.Group.{groupOf, bytes, placeOf}
 use Rattle.look.specs.Element.{pastRecords, shares}
-use Rattle.look.specs.Calls.{Lent, checked, isElement, groups, anyBelow, isCounted, onCount, writable, judgedElement}
+use Rattle.number.specs.Below.{anyBelow}
+use Rattle.look.specs.Calls.{Lent, checked, isElement, groups, isCounted, onCount, writable, judgedElement}
 use Rattle.look.specs.Steps.{refusalOf, checkedNo, writableNo, elementNo}
 use Rattle.look.proofs.CheckLaws.{two, checked-refused, checked-passed, group-is}
 

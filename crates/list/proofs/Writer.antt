@@ -17,7 +17,8 @@ use Rattle.cell.specs.Kind.{shapeOf}
 use Rattle.cell.proofs.Laws.{reads-alone}
 use Rattle.convert.specs.Told.{held}
 use Rattle.tables.specs.Form.{tablesIn, kind, first, mask}
-use Rattle.tables.specs.Group.{sumBelow, elements, bytes, placeOf}
+use Rattle.number.specs.Below.{sumBelow}
+use Rattle.tables.specs.Group.{elements, bytes, placeOf}
 use Rattle.look.specs.declared.element.Line.{Line}
 use Rattle.look.specs.Element.{means, rawIn, lineWith, lineOf, shares, touched}
 use Rattle.look.specs.Calls.{Kept, room, groups, remade, refreshed, lineAt, withImage}

@@ -12,7 +12,7 @@ use lib.Dec.{ltb, leb, eqb}
 use lib.IntN.{ℤ}
 use lib.ListN.{length, getD}
 use Rattle.number.specs.Answer.{Answer, given, refused}
-use Rattle.cell.specs.Kind.{shapeOf}
+use Rattle.cell.specs.Kind.{shapeOf, isType}
 use Rattle.cell.specs.Mask.{maskRule, outside}
 use Rattle.cell.specs.Raw.{fitsRaw}
 use Rattle.cell.specs.Bytes.{storedAt}
@@ -20,9 +20,10 @@ use Rattle.cell.proofs.Shapes.{bytes-le}
 use Rattle.cell.proofs.Laws as cell-laws
 use Rattle.convert.specs.Asked.{askedRaw}
 use Rattle.convert.proofs.Laws.{asked-stores}
-use Rattle.tables.specs.Form.{objectSection, groupSection, Tables, tablesIn, kind, first, mask, walk, x, y, counter, methodOf, limit}
-use Rattle.tables.specs.Group.{sumBelow, elements, bytes, placeOf}
-use Rattle.tables.specs.Rule.{isType, isNoPart, pointsRule, counterRule, axisRule, valuesRule, limitsRule, bytesRule, roleRule, partRule, groupRule, keepsRule}
+use Rattle.tables.specs.Form.{objectSection, groupSection, methodSection, Tables, tablesIn, kind, first, mask, walk, x, y, counter, methodOf, limit}
+use Rattle.number.specs.Below.{sumBelow}
+use Rattle.tables.specs.Group.{elements, bytes, placeOf}
+use Rattle.tables.specs.Rule.{isNoPart, pointsRule, counterRule, axisRule, valuesRule, limitsRule, bytesRule, roleRule, partRule, groupRule, keepsRule}
 use Rattle.tables.specs.Sizes.{sizesFit}
 use Rattle.tables.proofs.All.{left, right, three, five, six, all-at}
 use Rattle.tables.proofs.Reading.{rule-facts, groups-are}
@@ -86,8 +87,8 @@ module _ (T : Tables) (g m : ℕ) where
   by-part : partRule T g m ≡ true → Within
   unfolding partRule
   by-part h =
-      let u = three (isType (kind T g) && leb (T .slots groupSection g 1) 1 && pointsRule T g && bytesRule T g m && roleRule T g m && leb (methodOf T g) (T .counts Rattle.tables.specs.Form.method)) (leb (T .slots groupSection g 10) 1) (limitsRule T g) h in
-      by-role (six (isType (kind T g)) (leb (T .slots groupSection g 1) 1) (pointsRule T g) (bytesRule T g m) (roleRule T g m) (leb (methodOf T g) (T .counts Rattle.tables.specs.Form.method)) (u .0) .4)
+      let u = three (isType (kind T g) && leb (T .slots groupSection g 1) 1 && pointsRule T g && bytesRule T g m && roleRule T g m && leb (methodOf T g) (T .counts methodSection)) (leb (T .slots groupSection g 10) 1) (limitsRule T g) h in
+      by-role (six (isType (kind T g)) (leb (T .slots groupSection g 1) 1) (pointsRule T g) (bytesRule T g m) (roleRule T g m) (leb (methodOf T g) (T .counts methodSection)) (u .0) .4)
 
   by-none : isNoPart T g ≡ true → Within
   unfolding isNoPart

@@ -9,7 +9,8 @@ use tables::group::place_of;
 ghost use mathlib.Core.Path.{_≡_};
 ghost use Prim.Native.Nat.{_≤_};
 ghost use Rattle.tables.specs.Form.{tablesIn};
-ghost use Rattle.tables.specs.Group.{sumBelow, elements};
+ghost use Rattle.number.specs.Below.{sumBelow};
+ghost use Rattle.tables.specs.Group.{elements};
 ghost use Rattle.look.specs.Calls.{kept, room, groups, stored, writtenTo};
 
 // Stores a raw number in an element's bytes.

@@ -13,7 +13,8 @@ ghost use Prim.Native.Nat.{_≤_};
 ghost use lib.ListN.{length};
 ghost use Rattle.convert.specs.Told.{toldRaw};
 ghost use Rattle.tables.specs.Form.{tablesIn};
-ghost use Rattle.tables.specs.Group.{sumBelow, elements};
+ghost use Rattle.number.specs.Below.{sumBelow};
+ghost use Rattle.tables.specs.Group.{elements};
 ghost use Rattle.look.specs.Calls.{kept, room, groups, rawNumber, physicalText, request, afterwards, writtenTo, writing};
 ghost use Rattle.look.specs.Told.{after};
 

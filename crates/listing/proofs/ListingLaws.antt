@@ -20,7 +20,8 @@ use Rattle.number.specs.Answer.{Answer, refused}
 use Rattle.records.specs.Cells.{sectionIn, slotIn}
 use Rattle.records.specs.Cells as cells
 use Rattle.tables.specs.Form.{tableSections, objectSection, groupSection, tablesIn, total}
-use Rattle.tables.specs.Group.{groupOf, elements, sumBelow, lineOf}
+use Rattle.number.specs.Below.{sumBelow}
+use Rattle.tables.specs.Group.{groupOf, elements, lineOf}
 use Rattle.tables.specs.Rule.{keepsRule}
 use Rattle.tables.specs.Sizes.{sizesFit}
 use Rattle.tables.proofs.All.{left}
@@ -36,7 +37,8 @@ use Rattle.print.proofs.PutLaws.{put-none, put-then, length-put}
 use Rattle.listing.specs.declared.listing.ListingAnswer.{ListingAnswer}
 use Rattle.listing.specs.declared.listing.ListingAnswer.the-variants.{Written, Refused}
 use Rattle.listing.specs.Print.{physical, line, header}
-use Rattle.listing.specs.Listing.{Columns, columns, columnsOf, keptNo, printing, printedLine, printedPart, printedBelow, printed, laid, listedBy, listedOf, ifFits, listing}
+use Rattle.look.specs.Lines.{laidOver}
+use Rattle.listing.specs.Listing.{Columns, columns, columnsOf, keptNo, printing, printedLine, printedPart, printedBelow, printed, listedBy, listedOf, ifFits, listing}
 
 -- ---- columns
 
@@ -157,8 +159,8 @@ pub ruleset printeds = (printed-put, needs)
 -- ---- what is tested first
 
 -- bytes put from the front of a buffer that has room for them
-put-front : (bytes out left : List ℕ) (past : ℕ) → Put 0 bytes out past left → past ≤ length out → left ≡ laid bytes out
-unfolding put
+put-front : (bytes out left : List ℕ) (past : ℕ) → Put 0 bytes out past left → past ≤ length out → left ≡ laidOver bytes out
+unfolding put laidOver
 put-front bytes out left past p h = let e = p .end in p .laid ∙ sets-eq bytes out 0 (omega arith) ∙ rw zero-add
 
 -- bytes that do not fit, and bytes that do: they were measured in another buffer
@@ -175,7 +177,7 @@ module _ (bytes out o w : List ℕ) (need : ℕ) where
       let j = q .end in
       let l : length bytes ≤ length out = omega arith in
       let s : r ≡ length bytes = omega arith in
-      let d : left ≡ laid bytes out = put-front bytes out left r q (omega arith) in
+      let d : left ≡ laidOver bytes out = put-front bytes out left r q (omega arith) in
       rw (le-leb (length bytes) (length out) l, s, d)
 
 -- l lines are lent, b says whether they are enough

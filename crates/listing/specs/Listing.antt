@@ -7,8 +7,10 @@ use lib.IntN.{ℤ, pos}
 use lib.ListN.{length, getD, drop}
 use Rattle.number.specs.Answer.{Answer, given, refused}
 use Rattle.tables.specs.Form.{objectSection, groupSection, tablesIn}
-use Rattle.tables.specs.Group.{groupOf, elements, sumBelow, lineOf}
+use Rattle.number.specs.Below.{sumBelow}
+use Rattle.tables.specs.Group.{groupOf, elements, lineOf}
 use Rattle.look.specs.Calls.{Kept, checked, hasRoom, lentBy, unless, isElement}
+use Rattle.look.specs.Lines.{laidOver}
 use Rattle.look.specs.Steps.{checkedNo}
 use Rattle.print.specs.Print.{slice}
 use Rattle.listing.specs.declared.listing.ListingAnswer.{ListingAnswer}
@@ -51,17 +53,13 @@ module _ (x t : List ℕ) (k : Columns) where
   unfoldable pub printed : List ℕ
   printed = header ++ printedBelow (tablesIn t .counts groupSection)
 
--- bytes laid over the front of a lent buffer
-abbrev pub laid : List ℕ → List ℕ → List ℕ
-laid bytes out = bytes ++ drop (length bytes) out
-
 -- how many bytes were written, and what the buffer holds
 pub record Listed : Type 0 where
   pub answer : Answer ℕ
   pub out : List ℕ
 
 abbrev pub listedBy : Answer (List ℕ) → List ℕ → Listed
-listedBy (given b) out = record { answer = given (length b); out = laid b out }
+listedBy (given b) out = record { answer = given (length b); out = laidOver b out }
 listedBy (refused n) out = record { answer = refused n; out = out }
 
 -- "or 20 where it is too short": 20 for what is lent, 22, then 20 where the bytes do not fit; a refusal leaves the buffer as it was

@@ -10,7 +10,8 @@ use lib.Dec.{leb}
 use lib.ListN.{length}
 use Rattle.text.proofs.Within.{and-right}
 use Rattle.tables.specs.Form.{tablesIn, total}
-use Rattle.tables.specs.Group.{sumBelow, elements}
+use Rattle.number.specs.Below.{sumBelow}
+use Rattle.tables.specs.Group.{elements}
 use Rattle.tables.specs.Sizes.{sizesFit}
 use Rattle.tables.proofs.Reading.{total-is}
 use Rattle.look.specs.Calls.{Lent, groups}

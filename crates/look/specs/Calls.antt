@@ -6,6 +6,7 @@ use lib.Dec.{ltb, leb, eqb}
 use lib.IntN.{ℤ, pos}
 use lib.ListN.{length, getD}
 use Rattle.number.specs.Answer.{Answer, given, refused}
+use Rattle.number.specs.Below.{anyBelow}
 use Rattle.cell.specs.Kind.{shapeOf}
 use Rattle.cell.specs.Raw.{fitsRaw, written}
 use Rattle.convert.specs.Asked.{askedRaw}
@@ -148,11 +149,6 @@ request o p i w = record { object = o; part = p; index = i; wanted = w }
 
 abbrev pub groupIn : Request → ℕ
 groupIn q = groupOf (q .object) (q .part)
-
--- f says true of a number below n
-unfoldable pub anyBelow : ℕ → (ℕ → Bool) → Bool
-anyBelow zero f = false
-anyBelow (suc n) f = anyBelow n f || f n
 
 -- group g has a stored count with one of the bytes from lo up to hi
 unfoldable pub isCounted : List ℕ → ℕ → ℕ → ℕ → Bool

@@ -4,6 +4,7 @@ pub mod Runs
 pub mod Wholes
 pub mod Forms
 pub mod Points
+pub mod Signs
 pub mod Laws
 pub mod Examples
 pub mod FormLaws

@@ -5,9 +5,7 @@ use mathlib.Core.List.{List}
 use mathlib.Core.Bool.{Bool}
 use native.Mathlib.Omega.{arith}
 use borrow.Author.Tests.{eq-eqb, ne-eqb}
-use lib.Dec.{ltb}
-use Rattle.cell.specs.Kind.{shapeOf}
-use Rattle.cell.specs.declared.kind.Shape.{Shape}
+use Rattle.cell.specs.Kind.{isType}
 use Rattle.rows.specs.Sections.{layout, object}
 use Rattle.grammar.specs.Move.{View}
 use Rattle.grammar.specs.Parameter.{find, foundAt}
@@ -15,7 +13,7 @@ use Rattle.grammar.specs.declared.names.Found.{Found}
 use Rattle.grammar.specs.declared.names.Found.the-variants as found
 use Rattle.place.specs.declared.order.Entry.{Entry}
 use Rattle.place.specs.declared.order.Layout.{Layout}
-use Rattle.objects.specs.Object.{led, isType, part, layoutAt, noEntry, measured, layoutNumber, layoutOf}
+use Rattle.objects.specs.Object.{led, part, layoutAt, noEntry, measured, layoutNumber, layoutOf}
 
 -- f is what `find` gave
 module _ (x : List ℕ) (v : View) (j a e : ℕ) (f : Found) (p : foundAt f ≡ find x v j a e) where
@@ -26,10 +24,6 @@ module _ (x : List ℕ) (v : View) (j a e : ℕ) (f : Found) (p : foundAt f ≡ 
   led-none y = let z : 0 ≡ find x v j a e = sym (ap foundAt y) ∙ p in omega arith
 
 pub ruleset leads = (led-at, led-none)
-
-pub type-is : (k : ℕ) (s : Shape) → s ≡ shapeOf k → ltb 0 (s .bytes) ≡ isType k
-unfolding isType
-type-is k s p = rw p
 
 pub part-is : (v : View) (l p k at kind position : ℕ) (present : Bool) → at ≡ v .slots layout l p → kind ≡ v .slots layout l k → position ≡ min at 65535 → present ≡ isType kind
     → _≡_ {A = Entry} (record { present = present; position = position; kind = kind }) (part v l p k)
@@ -49,7 +43,7 @@ measured-is k b n pb pn = rw (pb, pn)
 pub number-is : (x : List ℕ) (v : View) (i a e r : ℕ) → a ≡ v .slots object i 6 → e ≡ v .slots object i 7 → r ≡ led x v layout a e → r ≡ layoutNumber x v i
 number-is x v i a e r pa pe pr = pr ∙ rw (pa, pe)
 
-pub ruleset parts = (type-is, part-is, layout-is, measured-is, number-is)
+pub ruleset parts = (part-is, layout-is, measured-is, number-is)
 
 -- c is the code of the object's word
 module _ (x : List ℕ) (v : View) (i c : ℕ) (p : c ≡ v .slots object i 3) where

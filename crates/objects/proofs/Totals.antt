@@ -16,7 +16,8 @@ use Rattle.grammar.specs.Move.{View}
 use Rattle.place.specs.declared.judge.Standing.{Standing}
 use Rattle.objects.specs.Object.{axisAt, sharedBy, judgeObject, elementsOf}
 use Rattle.objects.specs.Stage as stage
-use Rattle.objects.specs.Stage.{names, named, turnsOf, turnsFrom, marked, turn, judgeEach, judgeAll, sumBelow}
+use Rattle.number.specs.Below.{sumBelow}
+use Rattle.objects.specs.Stage.{names, named, turnsOf, turnsFrom, marked, turn, judgeEach, judgeAll}
 use Rattle.objects.proofs.Shares.{Share, share}
 use Rattle.objects.proofs.Each.{led-below, In, in-either, each-turn, unmarked, still}
 

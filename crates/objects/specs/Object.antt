@@ -5,7 +5,7 @@ use mathlib.Core.List.{List}
 use mathlib.Core.Bool.{Bool, true, false, cond, _||_}
 use lib.Dec.{eqb, ltb}
 use Rattle.number.specs.Answer.{Answer, given, refused}
-use Rattle.cell.specs.Kind.{shapeOf}
+use Rattle.cell.specs.Kind.{isType, shapeOf}
 use Rattle.cell.specs.Mask.{maskRule}
 use Rattle.rows.specs.Codes.{AXIS-PTS, CHARACTERISTIC, MEASUREMENT, MSB-FIRST, VAL-BLK, CURVE, MAP, COM-AXIS}
 use Rattle.rows.specs.Sections.{file, layout, object, axis}
@@ -28,10 +28,6 @@ abbrev pub led : List ℕ → View → ℕ → ℕ → ℕ → ℕ
 led x v j a e = find x v j a e - 1
 
 -- ---- the layout
-
--- a code of a data type: any other has no bytes
-unfoldable pub isType : ℕ → Bool
-isType k = ltb 0 (shapeOf k .bytes)
 
 -- what a layout says of a part: its Position in slot p, its data type in slot k; it has the part where there is a data type
 unfoldable pub part : View → ℕ → ℕ → ℕ → Entry

@@ -63,8 +63,3 @@ module _ (image : List ℕ) (base : ℕ) (x : List ℕ) (v : View) where
 abbrev pub toldTurn : Turn → Answer ℕ
 toldTurn (variant.Total n) = given n
 toldTurn (variant.Refused n p) = refused n p
-
--- the sum of f 0 and so on, n of them
-unfoldable pub sumBelow : ℕ → (ℕ → ℕ) → ℕ
-sumBelow zero f = 0
-sumBelow (suc n) f = sumBelow n f + f n

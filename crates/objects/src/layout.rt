@@ -1,6 +1,6 @@
 // The layout of an object.
 use crate::least::least16;
-use cell::kind::shape_of;
+use cell::kind::is_type;
 use grammar::names::Found;
 use grammar::names::find;
 use grammar::view::LAYOUT;
@@ -11,7 +11,7 @@ use place::order::Layout;
 use words::codes::MEASUREMENT;
 ghost use mathlib.Core.Path.{_≡_};
 ghost use Rattle.grammar.specs.Move.{viewIn};
-ghost use Rattle.objects.specs.Object.{led, isType, part, layoutAt, noEntry, measured, layoutNumber, layoutOf};
+ghost use Rattle.objects.specs.Object.{led, part, layoutAt, noEntry, measured, layoutNumber, layoutOf};
 
 // The greatest Position.
 const POSITION: u16 = 65535;
@@ -24,14 +24,6 @@ pub fn led(x: &[u8], t: &[u64], j: u8, a: usize, e: usize) -> u16
         Found::At(i) => i,
         Found::Nothing => 0,
     }
-}
-
-// Whether a code is that of a data type.
-fn is_type(k: u64) -> bool
-    ensures { λ r. ⌜ r ≡ isType k ⌝ }
-{
-    let s = shape_of(k);
-    0 < s.bytes
 }
 
 // What layout l says of a part: its Position in slot p, its data type in slot k.

@@ -97,8 +97,8 @@ AllHold [] = Unit {0}
 AllHold (c ∷ cs) = Holds c × AllHold cs
 
 -- n/d
-abbrev pub over : ℕ → ℕ → Outcome
-over n d = value (number (pos n) (pos d))
+abbrev pub ratio : ℕ → ℕ → Outcome
+ratio n d = value (number (pos n) (pos d))
 
 -- So many bytes of 0.
 unfoldable pub zeros : ℕ → List ℕ
@@ -142,12 +142,12 @@ P10 = CURVE "0x1001" "UBYTE" "UWORD" "UBYTE"
 unfoldable pub cases : List Case
 cases =
     -- P1 COEFFS 0 1000 0 0 0 1, raw 11800: 11800/1000. P2 LINEAR 0.001 0: the same.
-    (shown P1 (pos 11800) is over 11800 1000)
-    ∷ (shown (LINEAR "0.001 0") (pos 11800) is over 11800 1000)
+    (shown P1 (pos 11800) is ratio 11800 1000)
+    ∷ (shown (LINEAR "0.001 0") (pos 11800) is ratio 11800 1000)
     -- P3 LINEAR 0.5 −40: raw 255 gives 875/10.
-    ∷ (shown (LINEAR "0.5 -40") (pos 255) is over 875 10)
+    ∷ (shown (LINEAR "0.5 -40") (pos 255) is ratio 875 10)
     -- P4 COEFFS 0 0 60 0 1 0: raw 4 gives 60/4, raw 0 none. P5 COEFFS 0 2 0 0 1 0: 10.
-    ∷ (shown P4 (pos 4) is over 60 4)
+    ∷ (shown P4 (pos 4) is ratio 60 4)
     ∷ (shown P4 (pos 0) is value none)
     ∷ (shown (COEFFS "0 2 0 0 1 0") (pos 1) is refusal 10)
     -- P6 under P1, 11.8005 stores 11801; −0.0005 in SWORD stores −1.

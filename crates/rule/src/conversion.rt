@@ -19,7 +19,8 @@ ghost use Prim.Native.Nat.{ℕ, _^_};
 ghost use lib.IntN.{pos};
 ghost use Rattle.convert.specs.Whole.{eqZ};
 ghost use Rattle.tables.specs.Form.{tablesIn};
-ghost use Rattle.tables.specs.Rule.{anyBelow, identicalRule, linearRule, wordRule, verbalRule, signsRule, fractionRule, methodRule, tableRule, entryRule};
+ghost use Rattle.number.specs.Below.{anyBelow};
+ghost use Rattle.tables.specs.Rule.{identicalRule, linearRule, wordRule, verbalRule, signsRule, fractionRule, methodRule, tableRule, entryRule};
 
 // The number of a method's verbal table and one more.
 const VERBAL: u16 = 9;

@@ -1,7 +1,7 @@
 // The table rule for one group, a part of an object.
 use crate::test::is_inside;
-use crate::test::is_type;
 use crate::unused::has_zeros;
+use cell::kind::is_type;
 use cell::raw::keeps_mask_rule;
 use convert::limit::at_most;
 use tables::form::GROUP;

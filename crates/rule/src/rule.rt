@@ -19,8 +19,9 @@ use tables::group::total_of;
 ghost use mathlib.Core.Path.{_≡_};
 ghost use Prim.Native.Nat.{ℕ};
 ghost use Rattle.tables.specs.Form.{tablesIn, objectSection, groupSection, methodSection, tableSection, entrySection};
-ghost use Rattle.tables.specs.Group.{sumBelow, elements};
-ghost use Rattle.tables.specs.Rule.{allBelow, objectRule, groupRule, methodRule, tableRule, entryRule, headRule, ruled, keepsRule};
+ghost use Rattle.number.specs.Below.{sumBelow, allBelow};
+ghost use Rattle.tables.specs.Group.{elements};
+ghost use Rattle.tables.specs.Rule.{objectRule, groupRule, methodRule, tableRule, entryRule, headRule, ruled, keepsRule};
 
 // "4,096 elements in all objects"
 const MOST_ELEMENTS: u64 = 4096;

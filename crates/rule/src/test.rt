@@ -2,7 +2,7 @@
 ghost use mathlib.Core.Path.{_≡_};
 ghost use Prim.Native.Nat.{_+_};
 ghost use lib.Dec.{leb};
-ghost use Rattle.tables.specs.Rule.{isFraction, isType, textRule, insideRule};
+ghost use Rattle.tables.specs.Rule.{isFraction, textRule, insideRule};
 
 // The words' codes: what an object is, and conversions.
 pub const AXIS_PTS: u64 = 7;
@@ -25,23 +25,11 @@ pub const RAT_FUNC: u64 = 21;
 
 pub const TAB_VERB: u64 = 22;
 
-// The first and the last data type.
-const UBYTE: u64 = 1;
-
-const SLONG: u64 = 6;
-
 // Whether a code is that of a conversion with coefficients.
 pub fn is_fraction(k: u64) -> bool
     ensures { λ r. ⌜ r ≡ isFraction k ⌝ }
 {
     (IDENTICAL <= k) & (k <= RAT_FUNC)
-}
-
-// Whether a code is a data type's.
-pub fn is_type(k: u64) -> bool
-    ensures { λ r. ⌜ r ≡ isType k ⌝ }
-{
-    (UBYTE <= k) & (k <= SLONG)
 }
 
 // Whether a text's places are inside a description of n bytes.

@@ -8,7 +8,8 @@ ghost use Prim.Native.Nat.{ℕ, _+_, _-_, _*_, _<_, _^_, min};
 ghost use lib.Dec.{eqb};
 ghost use lib.ListN.{getD};
 ghost use Rattle.tables.specs.Form.{tablesIn};
-ghost use Rattle.tables.specs.Rule.{allBelow, countFits, unusedZero, formRule};
+ghost use Rattle.number.specs.Below.{allBelow};
+ghost use Rattle.tables.specs.Rule.{countFits, unusedZero, formRule};
 
 // How many sections there are.
 const SECTIONS: u8 = 6;

@@ -9,8 +9,7 @@ use native.Mathlib.Omega.{arith}
 use native.Mathlib.Numerals.{add-one}
 use borrow.Author.Tests.{eqb-true, eqb-false}
 use lib.Dec.{eqb}
-use Rattle.tables.specs.Rule.{allBelow, anyBelow}
-use Rattle.tables.specs.Group.{sumBelow}
+use Rattle.number.specs.Below.{allBelow, sumBelow, anyBelow}
 
 -- ---- two tests
 

@@ -12,7 +12,8 @@ use mir.Val.{Fits}
 use lib.Dec.{eqb}
 use lib.IntN.{ℤ}
 use Rattle.number.specs.Decimal.{Scaled}
-use Rattle.convert.specs.Whole.{signedOf}
+use Rattle.number.specs.Signed.{signedOf, mostSigned}
+use Rattle.number.proofs.Signs.{under-most}
 use Rattle.convert.specs.declared.method.Coefficients.{Coefficients}
 use Rattle.cell.specs.Kind.{shapeOf}
 use Rattle.cell.proofs.Shapes.{bytes-le}
@@ -140,6 +141,10 @@ pub ruleset stores = (stored-is, place-is, needs)
 
 -- ---- methods
 
+-- a coefficient's size has room for either sign
+pub size-signed : (z n : ℕ) (negative : Bool) → n ≡ min z pastCoefficient → n ≤ mostSigned negative
+size-signed z n negative e = under-most n negative (rw e (omega arith))
+
 module _ (t : List ℕ) (m : ℕ) where
   pub coefficient-is : (k s z : ℕ) (r : ℤ) (n : ℕ) → s ≡ slotIn t (sectionIn tableSections methodSection) m k → z ≡ slotIn t (sectionIn tableSections methodSection) m (k + 1)
       → n ≡ min z pastCoefficient → r ≡ signedOf (eqb s 1) n → r ≡ coefficient (tablesIn t) m k
@@ -149,4 +154,4 @@ module _ (t : List ℕ) (m : ℕ) where
       → _≡_ {A = Coefficients} (record { b = b; c = c; e = e; f = f }) (coefficients (tablesIn t) m)
   coefficients-are b c e f p q r s = rw (p, q, r, s)
 
-pub ruleset methods = (coefficient-is, coefficients-are, needs)
+pub ruleset methods = (size-signed, coefficient-is, coefficients-are, needs)

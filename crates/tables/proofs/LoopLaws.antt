@@ -15,8 +15,9 @@ use Rattle.records.specs.Cells.{sectionIn, countIn, slotIn}
 use Rattle.records.specs.declared.Section.{Section}
 use Rattle.records.proofs.OpLaws.{product}
 use Rattle.tables.specs.Form.{tableSections, objectSection, Tables, tablesIn}
-use Rattle.tables.specs.Group.{sumBelow, elements}
-use Rattle.tables.specs.Rule.{allBelow, countFits, unusedZero, formRule, ruled, keepsRule}
+use Rattle.number.specs.Below.{sumBelow, allBelow}
+use Rattle.tables.specs.Group.{elements}
+use Rattle.tables.specs.Rule.{countFits, unusedZero, formRule, ruled, keepsRule}
 use Rattle.tables.proofs.All.{all-none, all-more, all-fails, sum-none, sum-more, sum-most}
 use Rattle.tables.proofs.GroupLaws.{elements-most}
 

@@ -9,15 +9,16 @@ use borrow.Author.Tests.{le-ltb, lt-ltb, eq-eqb, ne-eqb}
 use lib.Dec.{eqb, leb}
 use Rattle.number.specs.Told.{scaled}
 use Rattle.number.specs.declared.decimal.Decimal.{Decimal}
-use Rattle.cell.specs.Kind.{shapeOf}
+use Rattle.cell.specs.Kind.{shapeOf, isType}
 use Rattle.cell.specs.Mask.{maskRule}
 use Rattle.cell.proofs.Shapes.{bytes-le}
 use Rattle.convert.specs.Limit.{atMost}
 use Rattle.convert.specs.Method.{soundMethod}
 use Rattle.convert.specs.declared.method.Coefficients.{Coefficients}
 use Rattle.tables.specs.Form.{headSection, objectSection, groupSection, methodSection, tableSection, entrySection, Tables, total, kind, place, x, y, wide, high, walk, methodOf, mask, counter, counterPlace, limit, coefficients}
-use Rattle.tables.specs.Group.{sumBelow, elements, bytes}
-use Rattle.tables.specs.Rule.{allBelow, isFraction, isType, textRule, insideRule, wordRule, partsRule, objectRule, isNoPart, pointsRule, counterRule, axisRule, valuesRule, limitsRule, bytesRule, roleRule, partRule, groupRule, verbalRule, signsRule, fractionRule, methodRule, tableRule, entryRule, headRule, ruled}
+use Rattle.number.specs.Below.{sumBelow, allBelow}
+use Rattle.tables.specs.Group.{elements, bytes}
+use Rattle.tables.specs.Rule.{isFraction, textRule, insideRule, wordRule, partsRule, objectRule, isNoPart, pointsRule, counterRule, axisRule, valuesRule, limitsRule, bytesRule, roleRule, partRule, groupRule, verbalRule, signsRule, fractionRule, methodRule, tableRule, entryRule, headRule, ruled}
 
 module _ (T : Tables) where
   pub object-is : (n i a b k : ℕ) (r s : Bool) → a ≡ T .slots objectSection i 0 → b ≡ T .slots objectSection i 1 → k ≡ T .slots objectSection i 2 → r ≡ textRule n a b → s ≡ partsRule T i k

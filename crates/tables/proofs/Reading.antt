@@ -12,12 +12,13 @@ use native.Mathlib.Omega.{arith}
 use native.Mathlib.Nat.{mul-le-mul-left, mul-suc, zero-mul}
 use borrow.Author.Tests.{eqb-true, leb-true, ne-eqb, eq-eqb}
 use lib.Dec.{eqb, leb, ltb}
-use Rattle.cell.specs.Kind.{shapeOf}
+use Rattle.cell.specs.Kind.{shapeOf, isType}
 use Rattle.cell.specs.Mask.{maskRule}
 use Rattle.rows.specs.Codes.{MEASUREMENT}
 use Rattle.tables.specs.Form.{headSection, objectSection, groupSection, methodSection, tableSection, entrySection, Tables, tablesIn, total, kind, place, x, y, wide, high, walk, methodOf, mask, forbidden, counter, counterPlace}
-use Rattle.tables.specs.Group.{groupOf, sumBelow, position, elements, bytes, placeOf}
-use Rattle.tables.specs.Rule.{allBelow, isType, textRule, insideRule, valueRule, measurementRule, partsRule, objectRule, isNoPart, pointsRule, counterRule, axisRule, valuesRule, limitsRule, bytesRule, roleRule, partRule, groupRule, verbalRule, methodRule, tableRule, entryRule, headRule, ruled, formRule, keepsRule}
+use Rattle.number.specs.Below.{sumBelow, allBelow}
+use Rattle.tables.specs.Group.{groupOf, position, elements, bytes, placeOf}
+use Rattle.tables.specs.Rule.{textRule, insideRule, valueRule, measurementRule, partsRule, objectRule, isNoPart, pointsRule, counterRule, axisRule, valuesRule, limitsRule, bytesRule, roleRule, partRule, groupRule, verbalRule, methodRule, tableRule, entryRule, headRule, ruled, formRule, keepsRule}
 use Rattle.tables.proofs.All.{left, right, three, five, six, all-at}
 use Rattle.tables.proofs.Addressing.{position-below}
 

@@ -7,13 +7,9 @@ use borrow.Author.Needs.{needs}
 use borrow.Author.Tests.{le-leb, lt-leb, leb-true, leb-false}
 use lib.Dec.{leb}
 use Rattle.tables.specs.Form.{tableSections}
-use Rattle.tables.specs.Rule.{isType, textRule, insideRule}
+use Rattle.tables.specs.Rule.{textRule, insideRule}
 use Rattle.tables.specs.Sizes.{sizesFit}
 use Rattle.tables.proofs.All.{right}
-
-pub type-is : (k : ℕ) → (leb 1 k && leb k 6) ≡ isType k
-unfolding isType
-type-is k = refl
 
 pub text-is : (n from past : ℕ) → (leb from past && leb past n) ≡ textRule n from past
 unfolding textRule
@@ -33,7 +29,7 @@ module _ (a b m : ℕ) where
   pub sum-past : m < a → false ≡ leb (a + b) m
   sum-past h = sym (lt-leb (a + b) m (omega arith))
 
-pub ruleset tests = (type-is, text-is, inside-is, sum-rest, sum-past, needs)
+pub ruleset tests = (text-is, inside-is, sum-rest, sum-past, needs)
 
 -- n bytes of description, m of image, a base address, c cells
 module _ (n m b c : ℕ) where

@@ -10,7 +10,8 @@ use Rattle.cell.proofs.Signed.{back, returned}
 use Rattle.convert.specs.Whole.{eqZ}
 use Rattle.convert.specs.declared.method.Coefficients.{Coefficients}
 use Rattle.rows.specs.Codes.{IDENTICAL, LINEAR}
-use Rattle.tables.specs.Rule.{anyBelow, identicalRule, linearRule, wordRule}
+use Rattle.number.specs.Below.{anyBelow}
+use Rattle.tables.specs.Rule.{identicalRule, linearRule, wordRule}
 
 -- a number that the machine reads back from the bits that it stored is the same, so that a test of it is
 same-back : (z w : ℤ) (r : Bool) → mag z < 2 ^ 63 → r ≡ eqZ (back z) w → r ≡ eqZ z w

@@ -15,7 +15,7 @@ use mathlib.Core.Bool.{Bool, not}
 use lib.Dec.{eqb}
 use lib.IntN.{ℤ}
 use Rattle.number.specs.Decimal.{Scaled}
-use Rattle.convert.specs.Whole.{signedOf}
+use Rattle.number.specs.Signed.{signedOf}
 use Rattle.convert.specs.declared.method.Coefficients.{Coefficients}
 use Rattle.records.specs.Records.{Sec, count, slot}
 use Rattle.records.specs.Cells.{sectionIn, countIn, slotIn}

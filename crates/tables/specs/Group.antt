@@ -2,6 +2,7 @@
 use Prim.Native.Nat.{ℕ, zero, suc, _+_, _*_, _-_, _/_, _%_}
 use mathlib.Core.Bool.{cond}
 use lib.Dec.{eqb}
+use Rattle.number.specs.Below.{sumBelow}
 use Rattle.cell.specs.Kind.{shapeOf}
 use Rattle.tables.specs.Form.{Tables, kind, place, x, y, wide, high, walk, mask, first}
 use Rattle.tables.specs.declared.group.Storage.{Storage}
@@ -9,11 +10,6 @@ use Rattle.tables.specs.declared.group.Storage.{Storage}
 -- "Requests name an element by object number, part and index": the group of an object's part (x 0, y 1, v 2)
 abbrev pub groupOf : ℕ → ℕ → ℕ
 groupOf object part = object * 3 + part
-
--- the sum of f below n
-unfoldable pub sumBelow : ℕ → (ℕ → ℕ) → ℕ
-sumBelow zero f = 0
-sumBelow (suc n) f = sumBelow n f + f n
 
 -- The index i of a listing counts "x fastest in a map whatever the storage": its x point is i % x, its y point i / x.
 -- Where it stands among the stored ones: "ROW_DIR: x runs fastest .. COLUMN_DIR: y runs fastest. INDEX_DECR stores the axis's last point first".

@@ -7,7 +7,7 @@ use mathlib.Core.Bool.{Bool, true, false, cond, not, _&&_, _||_}
 use lib.Dec.{eqb, ltb, leb}
 use lib.IntN.{pos}
 use lib.ListN.{length, getD}
-use Rattle.cell.specs.Kind.{UBYTE, SLONG, shapeOf}
+use Rattle.cell.specs.Kind.{isType, shapeOf}
 use Rattle.cell.specs.Mask.{maskRule}
 use Rattle.convert.specs.Limit.{atMost}
 use Rattle.convert.specs.Method.{soundMethod, identicalOf}
@@ -17,17 +17,8 @@ use Rattle.records.specs.Records.{widthOf, mostOf}
 use Rattle.records.specs.Cells.{baseIn, sectionIn, countIn}
 use Rattle.rows.specs.Codes.{AXIS-PTS, MEASUREMENT, VALUE, VAL-BLK, CURVE, MAP, IDENTICAL, LINEAR, RAT-FUNC, TAB-VERB}
 use Rattle.tables.specs.Form.{tableSections, headSection, objectSection, groupSection, methodSection, tableSection, entrySection, Tables, tablesIn, total, kind, place, x, y, wide, high, walk, methodOf, mask, counter, counterPlace, limit, coefficients}
-use Rattle.tables.specs.Group.{groupOf, sumBelow, elements, bytes}
-
--- f holds below n
-unfoldable pub allBelow : ℕ → (ℕ → Bool) → Bool
-allBelow zero f = true
-allBelow (suc n) f = allBelow n f && f n
-
--- f holds somewhere below n
-unfoldable pub anyBelow : ℕ → (ℕ → Bool) → Bool
-anyBelow zero f = false
-anyBelow (suc n) f = anyBelow n f || f n
+use Rattle.number.specs.Below.{sumBelow, allBelow, anyBelow}
+use Rattle.tables.specs.Group.{groupOf, elements, bytes}
 
 -- the conversions that have coefficients, and the one that has a verbal table
 abbrev pub isFraction : ℕ → Bool
@@ -35,10 +26,6 @@ isFraction k = leb IDENTICAL k && leb k RAT-FUNC
 
 abbrev pub isVerbal : ℕ → Bool
 isVerbal k = eqb k TAB-VERB
-
--- "Data types: UBYTE, SBYTE, UWORD, SWORD, ULONG, SLONG."
-unfoldable pub isType : ℕ → Bool
-isType k = leb UBYTE k && leb k SLONG
 
 -- "text places inside the description"
 unfoldable pub textRule : ℕ → ℕ → ℕ → Bool

@@ -2,9 +2,10 @@
 use crate::form::METHOD;
 use crate::form::slot_of;
 use convert::method::Coefficients;
+use number::signed::with_sign;
 ghost use mathlib.Core.Path.{_≡_};
 ghost use Prim.Native.Nat.{_<_, _^_, min};
-ghost use Rattle.convert.specs.Whole.{signedOf};
+ghost use Rattle.number.specs.Signed.{signedOf};
 ghost use Rattle.tables.specs.Form.{tablesIn, pastCoefficient, coefficient, coefficients};
 
 // One past "10^9".
@@ -19,18 +20,6 @@ fn coefficient_size(n: u64) -> u64
     } else {
         PAST_COEFFICIENT
     }
-}
-
-// The number of a size, with or without a minus.
-fn with_sign(negative: bool, n: u64) -> i64
-    requires { ⌜ n < 2 ^ 63 ⌝ }
-    ensures { λ r. ⌜ r ≡ signedOf negative n ⌝ }
-{
-    let x = n as i64;
-    if negative {
-        return 0 - x;
-    }
-    x
 }
 
 // The whole number in two cells of method m.

@@ -4,7 +4,8 @@ use Prim.Native.Nat.{ℕ, _+_, _-_, _<_}
 use mathlib.Core.Path.{_≡_, ap}
 use native.Mathlib.Omega.{arith}
 use Rattle.tables.specs.Form.{groupSection, tablesIn}
-use Rattle.tables.specs.Group.{elements, sumBelow}
+use Rattle.number.specs.Below.{sumBelow}
+use Rattle.tables.specs.Group.{elements}
 use Rattle.listing.specs.Listing.{columns}
 use Rattle.listing.proofs.ListingLaws.{uptos, Upto, upto-left, upto-line}
 

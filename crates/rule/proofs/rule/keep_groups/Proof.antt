@@ -4,7 +4,8 @@ use Prim.Native.Nat.{_≤_, _-_}
 use mathlib.Core.Path.{_≡_}
 use mathlib.Core.Bool.{true}
 use Rattle.tables.specs.Form.{tablesIn}
-use Rattle.tables.specs.Rule.{allBelow, groupRule}
+use Rattle.number.specs.Below.{allBelow}
+use Rattle.tables.specs.Rule.{groupRule}
 use Rattle.tables.proofs.LoopLaws.{turns}
 
 abbrev Inv-loop : tie.InvT-loop

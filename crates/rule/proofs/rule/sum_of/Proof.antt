@@ -6,7 +6,8 @@ use denote.Ref.{now}
 use native.Mathlib.Omega.{arith}
 use borrow.Author.Needs.{needs}
 use Rattle.tables.specs.Form.{tablesIn}
-use Rattle.tables.specs.Group.{sumBelow, elements}
+use Rattle.number.specs.Below.{sumBelow}
+use Rattle.tables.specs.Group.{elements}
 use Rattle.tables.proofs.LoopLaws.{sum-small, sums}
 
 abbrev Inv-loop : tie.InvT-loop

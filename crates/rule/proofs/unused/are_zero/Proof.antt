@@ -4,7 +4,7 @@ use Prim.Native.Nat.{_≤_, _-_}
 use mathlib.Core.Path.{_≡_}
 use borrow.Author.Needs.{needs}
 use lib.Dec.{eqb}
-use Rattle.tables.specs.Rule.{allBelow}
+use Rattle.number.specs.Below.{allBelow}
 use Rattle.tables.proofs.LoopLaws.{clearAt, clear-done, clears}
 
 abbrev Inv-loop : tie.InvT-loop

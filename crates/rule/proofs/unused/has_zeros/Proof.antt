@@ -5,7 +5,7 @@ use mathlib.Core.Path.{_≡_}
 use mathlib.Core.Bool.{true}
 use denote.Ref.{now}
 use borrow.Author.Needs.{needs}
-use Rattle.tables.specs.Rule.{allBelow}
+use Rattle.number.specs.Below.{allBelow}
 use Rattle.tables.proofs.LoopLaws.{zeroAt, zeros-stop, zeros-done, zeros}
 
 abbrev Inv-loop : tie.InvT-loop

@@ -3,7 +3,7 @@ use Rattle.rule.proofs.unused.keeps_form.Tie as tie
 use Prim.Native.Nat.{_≤_, _-_}
 use mathlib.Core.Path.{_≡_}
 use mathlib.Core.Bool.{true}
-use Rattle.tables.specs.Rule.{allBelow}
+use Rattle.number.specs.Below.{allBelow}
 use Rattle.tables.proofs.LoopLaws.{formedAt, forms}
 
 abbrev Inv-loop : tie.InvT-loop

@@ -4,7 +4,8 @@ use mathlib.Core.Bool.{not}
 use lib.Dec.{eqb}
 use lib.IntN.{natAbs}
 use Rattle.cell.proofs.Signed.{Is, back, is-param}
-use Rattle.convert.specs.Whole.{signedOf, eqZ}
+use Rattle.number.specs.Signed.{signedOf}
+use Rattle.convert.specs.Whole.{eqZ}
 use borrow.Author.Needs.{needs}
 use Rattle.verbal.proofs.text.has_number.Statement.{statement}
 use Rattle.verbal.proofs.text.has_number.Tie as tie

@@ -1,7 +1,0 @@
--- `most_of` meets its contract.
-use borrow.Author.Needs.{needs}
-use Rattle.ask.proofs.typed.most_of.Statement.{statement}
-use Rattle.ask.proofs.typed.most_of.Tie as tie
-
-pub most-of-spec : {M : Type 1} → statement M
-most-of-spec = tie.close (tie.spec (λ c. search needs) (λ c. search needs))

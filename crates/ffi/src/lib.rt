@@ -1,7 +1,4 @@
 // The calls as C functions, thin over the library: include/obarsivel.h says what each takes and answers.
-mod reading;
-mod told;
-
 use list::make::make_list;
 use list::write::write_physical;
 use list::write::write_raw;
@@ -10,17 +7,17 @@ use load::load;
 use look::read::ReadAnswer;
 use look::read::read;
 use look::search::search;
-use reading::put_reading;
-use told::call_number;
-use told::find_number;
-use told::listing_number;
-use told::load_number;
+use numbers::reading::put_reading;
+use numbers::told::call_number;
+use numbers::told::find_number;
+use numbers::told::listing_number;
+use numbers::told::load_number;
 ghost use mathlib.Core.Path.{_≡_};
 ghost use lib.ListN.{length};
 ghost use Rattle.load.specs.Load.{loaded};
 ghost use Rattle.look.specs.Calls.{lentOf, kept, searched, reading, making, rawNumber, physicalText, request, writing};
 ghost use Rattle.listing.specs.Listing.{listing};
-ghost use Rattle.ffi.specs.Numbers.{version, loadCall, loadTold, findNumber, readCall, readTold, listCall, listTold, listingCall, listingTold};
+ghost use Rattle.numbers.specs.Numbers.{version, loadCall, loadTold, findNumber, readCall, readTold, listCall, listTold, listingCall, listingTold};
 
 // The version, as include/obarsivel.h has it.
 const MAJOR: u32 = 0;

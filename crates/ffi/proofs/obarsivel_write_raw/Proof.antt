@@ -4,7 +4,7 @@ use Rattle.ffi.proofs.obarsivel_write_raw.Tie as tie
 use lib.ListN.{length}
 use mir.Facts.{toZ-ofZ}
 use Rattle.look.specs.Calls.{kept}
-use Rattle.ffi.proofs.NumberLaws.{tellings, write-told}
+use Rattle.numbers.proofs.NumberLaws.{tellings, write-told}
 
 returns : tie.Need-returns
 returns c =

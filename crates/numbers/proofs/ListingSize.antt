@@ -16,7 +16,7 @@ use Rattle.print.specs.Print.{figuresOf, signed, slice}
 use Rattle.listing.specs.Print.{physical, line, header}
 use Rattle.listing.specs.Listing.{Columns, columnsOf, nameOf, printedLine, printedPart, printedBelow, printed, listedBy, ifFits, keptNo, listing}
 use Rattle.listing.proofs.ListingLaws.{kept-text, kept-lines, kept-passed, kept-refused}
-use Rattle.ffi.specs.Numbers.{heldCount}
+use Rattle.numbers.specs.Numbers.{heldCount}
 
 -- ---- one line
 figures-few : (f n : ℕ) → length (figuresOf f n) ≤ f

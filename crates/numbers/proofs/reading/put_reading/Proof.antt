@@ -1,4 +1,4 @@
--- `ffi::reading::put_reading` meets its contract. Assumes nothing.
+-- `numbers::reading::put_reading` meets its contract. Assumes nothing.
 use mathlib.Core.Path.{_≡_, _∙_}
 use native.Mathlib.Omega.{arith}
 use lib.IntN.{pos}
@@ -6,10 +6,10 @@ use mir.Syntax.{w64}
 use mir.Val.{toZ, ofZ}
 use mir.Facts.{toZ-ofZ}
 use Rattle.cell.proofs.Signed.{is-cast, returned}
-use Rattle.ffi.proofs.ReadingLaws.{five-put, one-put}
+use Rattle.numbers.proofs.ReadingLaws.{five-put, one-put}
 use borrow.Author.Needs.{needs}
-use Rattle.ffi.proofs.reading.put_reading.Statement.{statement}
-use Rattle.ffi.proofs.reading.put_reading.Tie as tie
+use Rattle.numbers.proofs.reading.put_reading.Statement.{statement}
+use Rattle.numbers.proofs.reading.put_reading.Tie as tie
 
 -- a state is a byte
 state-cast : (c : tie.After-struct-known) → toZ w64 (c .before .before .before .before .before .before .args .p .state) ≡ pos (c .before .before .before .before .before .before .args .p .state)

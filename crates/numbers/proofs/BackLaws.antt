@@ -19,8 +19,8 @@ use Rattle.number.specs.Answer.{Answer, given, refused}
 use Rattle.look.specs.Calls.{Lent, lentBy, unless, checked, searched, Reading, reading, Kept, hasRoom, making, rawNumber, physicalText, Request, request, writing}
 use Rattle.look.proofs.Numbers.{OneOf, RefusedBy, given-numbers, unless-numbers, checked-numbers, searched-numbers, reading-numbers, making-numbers, writeOrder, writing-numbers}
 use Rattle.listing.specs.Listing.{columnsOf, printed, listedBy, ifFits, listing}
-use Rattle.ffi.specs.Numbers.{loadNumber, findNumber, readBy, readTold, callNumber, listingNumber}
-use Rattle.ffi.specs.Back.{loadBack, Tellable, findBack, doneOf, callBack, listingBack}
+use Rattle.numbers.specs.Numbers.{loadNumber, findNumber, readBy, readTold, callNumber, listingNumber}
+use Rattle.numbers.specs.Back.{loadBack, Tellable, findBack, doneOf, callBack, listingBack}
 
 -- ---- a load
 pub load-number-back : (a : placed.Answer (Unit {0})) → Tellable a → loadBack (loadNumber a) ≡ a

@@ -1,8 +1,8 @@
--- `ffi::reading::shown_number` meets its contract. Assumes nothing.
+-- `numbers::reading::shown_number` meets its contract. Assumes nothing.
 use lib.Ieee.{ofBits}
-use Rattle.ffi.proofs.reading.shown_number.Statement.{statement}
-use Rattle.ffi.proofs.reading.shown_number.Tie as tie
-use Rattle.ffi.proofs.ReadingLaws.{showns}
+use Rattle.numbers.proofs.reading.shown_number.Statement.{statement}
+use Rattle.numbers.proofs.reading.shown_number.Tie as tie
+use Rattle.numbers.proofs.ReadingLaws.{showns}
 
 returns-2 : tie.Need-returns-2
 unfolding ofBits

@@ -22,7 +22,7 @@ use Rattle.look.specs.declared.read.ReadAnswer.{ReadAnswer}
 use Rattle.look.specs.declared.read.ReadAnswer.the-variants as read
 use Rattle.list.proofs.RefreshLaws.{put-past}
 use Rattle.look.specs.Lines.{laidOver}
-use Rattle.ffi.specs.Numbers.{kindShown, numberShown, fiveOf, readCall, readTold}
+use Rattle.numbers.specs.Numbers.{kindShown, numberShown, fiveOf, readCall, readTold}
 
 -- ---- what is shown
 module _ (s : Shown) where

@@ -6,7 +6,7 @@ ghost use mathlib.Core.List.{[], _∷_};
 ghost use lib.ListN.{set};
 ghost use lib.Seq.{sets};
 ghost use Rattle.convert.specs.Told.{toldShown};
-ghost use Rattle.ffi.specs.Numbers.{kindShown, numberShown, fiveOf};
+ghost use Rattle.numbers.specs.Numbers.{kindShown, numberShown, fiveOf};
 
 // What is shown, as a number: 0 nothing, 1 a number, 2 a text.
 fn shown_kind(s: Shown) -> i64

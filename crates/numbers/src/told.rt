@@ -6,7 +6,7 @@ use look::search::SearchAnswer;
 ghost use mathlib.Core.Path.{_≡_};
 ghost use lib.IntN.{pos, negℤ};
 ghost use Rattle.look.specs.Told.{toldSearch, toldCall};
-ghost use Rattle.ffi.specs.Numbers.{toldLoad, loadNumber, findNumber, callNumber, toldListing, heldCount, listingNumber};
+ghost use Rattle.numbers.specs.Numbers.{toldLoad, loadNumber, findNumber, callNumber, toldListing, heldCount, listingNumber};
 
 // A refusal's number and place in one number: the place times 64, and the number.
 const NUMBERS: u64 = 64;

@@ -21,8 +21,8 @@ use Rattle.listing.specs.Listing.{Listed, listedOf}
 use Rattle.listing.specs.Listing as listings
 use Rattle.listing.specs.declared.listing.ListingAnswer.{ListingAnswer}
 use Rattle.listing.specs.declared.listing.ListingAnswer.the-variants as listing
-use Rattle.ffi.specs.Numbers.{toldLoad, loadNumber, loadCall, loadTold, findNumber, callNumber, listCall, listTold, toldListing, heldCount, listingNumber, listingCall, listingTold}
-use Rattle.ffi.proofs.ListingSize.{count-held}
+use Rattle.numbers.specs.Numbers.{toldLoad, loadNumber, loadCall, loadTold, findNumber, callNumber, listCall, listTold, toldListing, heldCount, listingNumber, listingCall, listingTold}
+use Rattle.numbers.proofs.ListingSize.{count-held}
 
 -- ---- each answer's number
 

@@ -1,8 +1,0 @@
--- `ffi::told::load_number` meets its contract. Assumes nothing.
-use Rattle.ffi.proofs.told.load_number.Statement.{statement}
-use Rattle.ffi.proofs.told.load_number.Tie as tie
-use Rattle.ffi.proofs.NumberLaws.{numbers}
-
-pub load-number-spec : {M : Type 1} → statement M
-load-number-spec =
-    tie.close (tie.spec (λ c. search numbers) (λ c. search numbers) (λ c. search numbers) (λ c. search numbers) (λ c. search numbers) (λ c. search numbers) (λ c. search numbers))

@@ -30,4 +30,4 @@ module _ (t : List ℕ) (g k m : ℕ) (pk : k ≡ kind (tablesIn t) g) (pm : m �
 pub asked-text : (t : List ℕ) (g : ℕ) (s : List ℕ) (b : Bool) → b ≡ isTabVerb (tablesIn t) g → b ≡ true → refused 15 ≡ wantedRaw (tablesIn t) g (physicalText s)
 asked-text t g s b e q = rw (← e, q)
 
-pub ruleset wants = (raw-fits, raw-unfit, asked-text, needs)
+pub ruleset wants = (raw-fits, raw-unfit, asked-is, asked-text, needs)

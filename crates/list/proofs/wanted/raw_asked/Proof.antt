@@ -1,7 +1,7 @@
 -- `list::wanted::raw_asked` meets its contract. Assumes nothing.
 use Rattle.list.proofs.wanted.raw_asked.Statement.{statement}
 use Rattle.list.proofs.wanted.raw_asked.Tie as tie
-use Rattle.list.proofs.WantedLaws.{wants, asked-is}
+use Rattle.list.proofs.WantedLaws.{wants}
 
 pub raw-asked-spec : {M : Type 1} → statement M
 raw-asked-spec =
@@ -15,4 +15,4 @@ raw-asked-spec =
     (λ c κs. search wants)
     (λ c κs. search wants)
     (λ c κs. search wants)
-    (λ c. asked-is _ _ _ _ (c .before .before .kind-of .ensures) (c .before .mask-of .ensures) _ _ _ _ _ _ (c .before .before .before .before .before .before .before .is-tab-verb .ensures) (c .before .before .before .before .before .before .if1 .left) (c .before .before .before .before .before .limit-of .ensures) (c .before .before .before .before .limit-of2 .ensures) (c .before .before .before .asks-by .ensures) (c .asked-raw .ensures)))
+    (λ c. search wants))

@@ -1,73 +1,22 @@
 -- `list::write::write_physical` meets its contract. Assumes nothing.
-use borrow.Author.Needs.{needs}
 use Rattle.list.proofs.write.write_physical.Statement.{statement}
 use Rattle.list.proofs.write.write_physical.Tie as tie
-use lib.ListN.{length}
-use Rattle.look.specs.Calls.{kept, physicalText}
-use Rattle.list.proofs.CallLaws.{write-refused, write-room, write-is}
-
-room-of-requires : tie.Need-room-of-requires
-room-of-requires c κs = search needs
-
-is-enough-requires : tie.Need-is-enough-requires
-is-enough-requires c κs = search needs
-
-judge-requires : tie.Need-judge-requires
-judge-requires c κs = search needs
-
-returns : tie.Need-returns
-returns c =
-    let a = c .before .before .before .before .before .before .before .before .before .args in
-    let k = kept (a .image .now) (a .raw .now) (a .state .now) (a .first .now) (a .second .now) in
-    write-refused (a .t .now) (length (a .x .now)) (a .base) k _ (c .before .before .before .room-of .ensures) _ (c .before .before .is-enough .ensures) _ (a .object) (a .part) (a .index) (c .before .judge .ensures) (physicalText (a .asked .now)) (c .if1 .taken)
-
-group-of-requires : tie.Need-group-of-requires
-group-of-requires c κs = search needs
-
-raw-asked-requires : tie.Need-raw-asked-requires
-raw-asked-requires c κs = search needs
-
-carry-out-requires : tie.Need-carry-out-requires
-carry-out-requires c κs =
-    let a = c .before .before .before .before .before .before .before .before .before .before .before .before .before .before .before .before .args in
-    let k = kept (a .image .now) (a .raw .now) (a .state .now) (a .first .now) (a .second .now) in
-    write-room (a .t .now) (length (a .x .now)) (a .base) k _ (c .before .before .before .before .before .before .before .before .before .before .room-of .ensures) _ (c .before .before .before .before .before .before .before .before .before .is-enough .ensures) _ (a .object) (a .part) (a .index) (c .before .before .before .before .before .before .before .before .judge .ensures) (physicalText (a .asked .now)) (c .before .before .before .before .before .before .before .if1 .left)
-
-same-length : tie.Need-same-length
-same-length c = search needs
-
-same-length-2 : tie.Need-same-length-2
-same-length-2 c = search needs
-
-same-length-3 : tie.Need-same-length-3
-same-length-3 c = search needs
-
-same-length-4 : tie.Need-same-length-4
-same-length-4 c = search needs
-
-same-length-5 : tie.Need-same-length-5
-same-length-5 c = search needs
-
-returns-2 : tie.Need-returns-2
-returns-2 c =
-    let a = c .before .before .before .before .before .before .before .before .before .before .before .before .before .before .before .before .before .before .before .before .before .before .before .before .args in
-    let k = kept (a .image .now) (a .raw .now) (a .state .now) (a .first .now) (a .second .now) in
-    write-is (a .t .now) (length (a .x .now)) (a .base) k _ (c .before .before .before .before .before .before .before .before .before .before .before .before .before .before .before .before .before .before .room-of .ensures) _ (c .before .before .before .before .before .before .before .before .before .before .before .before .before .before .before .before .before .is-enough .ensures) _ (a .object) (a .part) (a .index) (c .before .before .before .before .before .before .before .before .before .before .before .before .before .before .before .before .judge .ensures) (physicalText (a .asked .now)) _ _ _ (c .before .before .before .before .before .before .before .before .before .before .before .before .before .before .before .if1 .left) (c .before .before .before .before .before .before .before .before .before .before .before .before .before .before .group-of .ensures) (c .before .before .before .before .before .before .before .before .before .before .before .before .before .raw-asked .ensures) (c .before .before .before .before .before .before .before .carry-out .ensures)
+use Rattle.list.proofs.CallLaws.{physical-writes}
 
 pub write-physical-spec : {M : Type 1} → statement M
 write-physical-spec =
     tie.close
     (tie.spec
-    room-of-requires
-    is-enough-requires
-    judge-requires
-    returns
-    group-of-requires
-    raw-asked-requires
-    carry-out-requires
-    same-length
-    same-length-2
-    same-length-3
-    same-length-4
-    same-length-5
-    returns-2)
+    (λ c κs. search physical-writes)
+    (λ c κs. search physical-writes)
+    (λ c κs. search physical-writes)
+    (λ c. search physical-writes)
+    (λ c κs. search physical-writes)
+    (λ c κs. search physical-writes)
+    (λ c κs. search physical-writes)
+    (λ c. search physical-writes)
+    (λ c. search physical-writes)
+    (λ c. search physical-writes)
+    (λ c. search physical-writes)
+    (λ c. search physical-writes)
+    (λ c. search physical-writes))

@@ -7,7 +7,9 @@ use native.Mathlib.Omega.{arith}
 use native.Mathlib.Nat.{mul-le-mul, mul-le-mul-left, mul-suc}
 use borrow.Author.Needs.{needs}
 use borrow.Author.Tests.{lt-ltb, ltb-true, leb-true, eqb-true, eq-eqb}
-use lib.Dec.{ltb, leb, eqb}
+use lib.Dec.{T, ltb, leb, eqb, ltb→lt}
+use mir.Syntax.{Width, w64}
+use mir.Val.{Fits, bits}
 use Rattle.cell.specs.Kind.{shapeOf}
 use Rattle.cell.proofs.Shapes.{bytes-le}
 use Rattle.tables.specs.Form.{tablesIn}
@@ -35,11 +37,16 @@ holds-is x wide y high w h =
       or-second true b e k = k
       or-second false b e k = absurd (false≢true e)
 
-pub room-small : (a b : ℕ) → a < 2 ^ 16 → b < 2 ^ 16 → a * b ≤ 4294836225
+room-small : (a b : ℕ) → a < 2 ^ 16 → b < 2 ^ 16 → a * b ≤ 4294836225
 room-small a b p q = mul-le-mul {n₂ = 65535} {m₂ = 65535} (omega arith) (omega arith)
 
-pub room-bytes-small : (k h r : ℕ) → h ≡ shapeOf k .bytes → r ≤ 4294836225 → h * r ≤ 17179344900
-room-bytes-small k h r e p = mul-le-mul {n₂ = 4} {m₂ = 4294836225} (rw e (bytes-le k)) p
+pub room-fits : (w : Width) (a b : ℕ) → a < 2 ^ 16 → b < 2 ^ 16 → T (ltb 4294836225 (2 ^ bits w)) → Fits w (a * b)
+room-fits w a b p q t = record { fits = omega (arith, room-small a b p q, ltb→lt 4294836225 (2 ^ bits w) t) }
+
+pub room-bytes-fit : (k h a b : ℕ) → h ≡ shapeOf k .bytes → a < 2 ^ 16 → b < 2 ^ 16 → Fits w64 (h * (a * b))
+room-bytes-fit k h a b e p q =
+    let m : h * (a * b) ≤ 4 * 4294836225 = mul-le-mul {n₂ = 4} {m₂ = 4294836225} (rw e (bytes-le k)) (room-small a b p q) in
+    record { fits = omega (arith, m) }
 
 pub room-is : (k h r : ℕ) → h ≡ shapeOf k .bytes → h * r ≡ shapeOf k .bytes * r
 room-is k h r e = rw e
@@ -75,19 +82,21 @@ module _ (s : Storage) (lo hi : ℕ) where
       let m : b * suc (position (s .walk) (s .x) (s .wide) (s .high) i) ≤ b * (s .wide * s .high) = mul-le-mul-left b p in
       within-apart lo hi (s .place) room (placeBy s i) b (omega arith) (omega (arith, m, mul-suc b (position (s .walk) (s .x) (s .wide) (s .high) i))) n
 
-  pub pass-none : (all : Bool) → _≡_ {A = Bool} false true → (i : ℕ) → i < s .x * s .y → (all || shares lo hi (placeBy s i) (shapeOf (s .kind) .bytes)) ≡ false
-  pass-none all h = absurd (false≢true h)
+  -- by the code's test, whether all lines are picked
+  module _ (all : Bool) (i : ℕ) where
+    pub pass-none : _≡_ {A = Bool} false true → (all || shares lo hi (placeBy s i) (shapeOf (s .kind) .bytes)) ≡ false
+    pass-none h = absurd (false≢true h)
 
-  pub pass-apart : (all : Bool) → all ≡ false → Apart → (i : ℕ) → i < s .x * s .y → (all || shares lo hi (placeBy s i) (shapeOf (s .kind) .bytes)) ≡ false
-  pass-apart all e a i l = rw e (a i l)
+    pub pass-apart : (r : Bool) → all ≡ false → r ≡ true → (r ≡ true → Apart) → i < s .x * s .y → (all || shares lo hi (placeBy s i) (shapeOf (s .kind) .bytes)) ≡ false
+    pass-apart r e h a l = rw e (a h i l)
 
 -- no line of a group that lies apart is picked
-pub passed-is : (t : List ℕ) (lo hi g n : ℕ) (s : Storage) (all : Bool) → s ≡ storageOf (tablesIn t) g → n ≡ elements (tablesIn t) g
-    → ((i : ℕ) → i < s .x * s .y → (all || shares lo hi (placeBy s i) (shapeOf (s .kind) .bytes)) ≡ false)
-    → (i : ℕ) → i < n → picked t lo hi all g i ≡ false
-passed-is t lo hi g n s all es en h i l =
+pub passed-is : (t : List ℕ) (lo hi g n i : ℕ) (s : Storage) (all r : Bool) → s ≡ storageOf (tablesIn t) g → n ≡ elements (tablesIn t) g → i < n
+    → (r ≡ true → (j : ℕ) → j < s .x * s .y → (all || shares lo hi (placeBy s j) (shapeOf (s .kind) .bytes)) ≡ false) → r ≡ true
+    → picked t lo hi all g i ≡ false
+passed-is t lo hi g n i s all r es en l h y =
     let e : shares lo hi (placeBy s i) (shapeOf (s .kind) .bytes) ≡ touched t lo hi g i = touch-group t lo hi g i s (shares lo hi (placeBy s i) (shapeOf (s .kind) .bytes)) es refl in
     let b : i < s .x * s .y = rw (es, ← en) l in
-    rw (← e) (h i b)
+    rw (← e) (h y i b)
 
-pub ruleset aparts = (touch-by, needs)
+pub ruleset aparts = (touch-by, holds-is, room-fits, room-bytes-fit, room-is, apart-is, pass-none, pass-apart, needs)

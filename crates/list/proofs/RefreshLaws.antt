@@ -2,7 +2,7 @@
 use mathlib.Core.Path.{_≡_, refl, sym, ap, _∙_}
 use mathlib.Core.List.{List}
 use mathlib.Core.Bool.{Bool, true, false, cond, _||_}
-use Prim.Native.Nat.{ℕ, zero, suc, _+_, _-_, _≤_, _<_}
+use Prim.Native.Nat.{ℕ, zero, suc, _+_, _-_, _^_, _≤_, _<_, min}
 use native.Mathlib.Omega.{arith}
 use native.Mathlib.Numerals.{add-one}
 use native.Mathlib.Nat.{add-zero}
@@ -10,14 +10,19 @@ use borrow.Author.Needs.{needs}
 use lib.IntN.{ℤ, pos}
 use lib.ListN.{length, getD, set, length-set}
 use lib.Seq.{set-out}
+use mir.Syntax.{w32, w64}
+use mir.Val.{Fits}
+use Rattle.cell.specs.Kind.{shapeOf}
 use Rattle.tables.specs.Form.{tablesIn}
-use Rattle.number.specs.Below.{sumBelow}
-use Rattle.tables.specs.Group.{elements}
+use Rattle.tables.specs.Group.{sumBelow, elements, storageOf, placeBy}
+use Rattle.tables.specs.declared.group.Storage.{Storage}
 use Rattle.look.specs.declared.element.Line.{Line}
-use Rattle.look.specs.Lines.{laidOver, keep, fresh}
-use Rattle.look.specs.Element.{lineOf}
+use Rattle.look.specs.declared.meaning.Meaning.{Meaning}
+use Rattle.look.specs.Lines.{over, keep, fresh}
+use Rattle.look.specs.Element.{lineOf, shares, touched}
 use Rattle.look.specs.Calls.{Kept, kept, room, groups, remade, refreshed}
-use Rattle.look.specs.Steps.{putLine, putLines}
+use Rattle.look.specs.Steps.{picked, putLine, putLines, meaningOf}
+use Rattle.list.proofs.ApartLaws.{touch-group, passed-is}
 use Rattle.list.proofs.LineLaws.{sum-more, sum-in, over-none, upto, upto-none, upto-next, upto-all, turn, length-at, line-kept, line-fresh, fresh-all}
 
 -- ---- one column
@@ -51,29 +56,29 @@ module _ (img : List ℕ) (r : List ℤ) (s : List ℕ) (a b : List ℤ) (k : �
       (h .2 ∙ line-fresh p a k (l .first) (w .first) (pos 0) e (ap (λ (z : Line). z .first) f))
       (h .3 ∙ line-fresh p b k (l .second) (w .second) (pos 0) e (ap (λ (z : Line). z .second) f))
 
--- by the code's test, whether all lines are picked or this one is
-module _ (img : List ℕ) (r : List ℤ) (s : List ℕ) (a b : List ℤ) (k : ℕ) (l : Line) (all q p : Bool) (e : q ≡ p) where
-  pub line-left : (all || q) ≡ false → kept img r s a b ≡ putLine (all || p) k l (kept img r s a b)
-  line-left h = left-alone img r s a b k (all || p) l (rw e at h)
+-- by the code's test, whether all lines are picked or this one is: q is what the code says of the bytes, v how its group is stored
+module _ (t img : List ℕ) (r : List ℤ) (s : List ℕ) (a b : List ℤ) (lo hi g i k : ℕ) (all q : Bool) (v : Storage) (ev : v ≡ storageOf (tablesIn t) g)
+    (eq : q ≡ shares lo hi (placeBy v i) (shapeOf (v .kind) .bytes)) where
+  test-is : (x : Bool) → (all || q) ≡ x → picked t lo hi all g i ≡ x
+  test-is x h = let e : q ≡ touched t lo hi g i = touch-group t lo hi g i v q ev eq in rw e at h
 
-  pub line-afresh : (r′ : List ℤ) (s′ : List ℕ) (a′ b′ : List ℤ) (w : Line) → (all || q) ≡ true → w ≡ l
-      → (r′ ≡ set r k (w .raw)) × (s′ ≡ set s k (w .state)) × (a′ ≡ set a k (w .first)) × (b′ ≡ set b k (w .second))
-      → kept img r′ s′ a′ b′ ≡ putLine (all || p) k l (kept img r s a b)
-  line-afresh r′ s′ a′ b′ w h f g = put-afresh img r s a b k (all || p) r′ s′ a′ b′ l w (rw e at h) f g
+  pub line-left : (all || q) ≡ false → kept img r s a b ≡ putLine (picked t lo hi all g i) k (lineOf t img g i) (kept img r s a b)
+  line-left h = left-alone img r s a b k (picked t lo hi all g i) (lineOf t img g i) (test-is false h)
+
+  -- x, y, d and e are the line that the code makes by the meaning m
+  pub line-afresh : (r′ : List ℤ) (s′ : List ℕ) (a′ b′ : List ℤ) (x : ℤ) (y : ℕ) (d e : ℤ) (m : Meaning) → (all || q) ≡ true → m ≡ meaningOf t g
+      → r′ ≡ set r k x → s′ ≡ set s k y → a′ ≡ set a k d → b′ ≡ set b k e
+      → ((h : ℕ) → v ≡ storageOf (tablesIn t) h → m ≡ meaningOf t h → record { raw = x; state = y; first = d; second = e } ≡ lineOf t img h i)
+      → kept img r′ s′ a′ b′ ≡ putLine (picked t lo hi all g i) k (lineOf t img g i) (kept img r s a b)
+  line-afresh r′ s′ a′ b′ x y d e m h em pr ps pa pb f =
+      put-afresh img r s a b k (picked t lo hi all g i) r′ s′ a′ b′ (lineOf t img g i) (record { raw = x; state = y; first = d; second = e }) (test-is true h) (f g ev em) (pr, ps, pa, pb)
+
+pub ruleset one-line = (line-left, line-afresh, needs)
 
 -- ---- the lines of a group
 module _ (s : ℕ → ℕ → Bool) (t img : List ℕ) (g k : ℕ) where
   pub group-none : (n : ℕ) (c : Kept) → n ≡ 0 → c ≡ putLines s t img g k n c
   group-none n c e = rw e
-
-  pub group-start : (c : Kept) → c ≡ putLines s t img g k 0 c
-  group-start c = refl
-
-  pub group-turn : (i : ℕ) (c c′ c₀ : Kept) → c ≡ putLines s t img g k i c₀ → c′ ≡ putLine (s g i) (k + i) (lineOf t img g i) c → c′ ≡ putLines s t img g k (i + 1) c₀
-  group-turn i c c′ c₀ p q = q ∙ rw (p, add-one i)
-
-  pub group-end : (i n : ℕ) (c c₀ : Kept) → n ≤ i → i ≤ n → c ≡ putLines s t img g k i c₀ → c ≡ putLines s t img g k n c₀
-  group-end i n c c₀ h l p = let e : i ≡ n = omega arith in rw e at p
 
   pub group-passed : (n : ℕ) (c : Kept) → ((i : ℕ) → i < n → s g i ≡ false) → c ≡ putLines s t img g k n c
   group-passed zero c h = refl
@@ -105,17 +110,49 @@ module _ (s : ℕ → ℕ → Bool) (t img : List ℕ) (g k : ℕ) where
       let d = putLines s t img g k i c in
       length-set (d .second) (k + i) (cond (s g i) (lineOf t img g i .second) (getD (d .second) (k + i) (pos 0))) ∙ lines-second i c
 
-  pub group-raw : (i : ℕ) (c c₀ : Kept) → c ≡ putLines s t img g k i c₀ → length (c .raw) ≡ length (c₀ .raw)
-  group-raw i c c₀ e = ap (λ (z : Kept). length (z .raw)) e ∙ lines-raw i c₀
+  -- what the loop over a group's n lines keeps: c is c₀ with the first i of them worked out
+  pub record InGroup (n i : ℕ) (c₀ c : Kept) : Type 0 where
+    pub few : n < 2 ^ 32
+    pub ends : k + n < 2 ^ 64
+    pub within : i ≤ n
+    pub so-far : c ≡ putLines s t img g k i c₀
 
-  pub group-state : (i : ℕ) (c c₀ : Kept) → c ≡ putLines s t img g k i c₀ → length (c .state) ≡ length (c₀ .state)
-  group-state i c c₀ e = ap (λ (z : Kept). length (z .state)) e ∙ lines-state i c₀
+  module _ (n i : ℕ) (c₀ c : Kept) (f : InGroup n i c₀ c) where
+    pub line-fits : i < n → Fits w64 (k + i)
+    line-fits l = record { fits = omega (arith, f .ends) }
 
-  pub group-first : (i : ℕ) (c c₀ : Kept) → c ≡ putLines s t img g k i c₀ → length (c .first) ≡ length (c₀ .first)
-  group-first i c c₀ e = ap (λ (z : Kept). length (z .first)) e ∙ lines-first i c₀
+    pub index-fits : i < n → Fits w32 (i + 1)
+    index-fits l = record { fits = omega (arith, f .few) }
 
-  pub group-second : (i : ℕ) (c c₀ : Kept) → c ≡ putLines s t img g k i c₀ → length (c .second) ≡ length (c₀ .second)
-  group-second i c c₀ e = ap (λ (z : Kept). length (z .second)) e ∙ lines-second i c₀
+    -- v and m are how the group is stored and what its numbers mean by
+    pub group-turn : (c′ : Kept) (v : Storage) (m : Meaning) → i < n → v ≡ storageOf (tablesIn t) g → m ≡ meaningOf t g
+        → ((h : ℕ) → v ≡ storageOf (tablesIn t) h → m ≡ meaningOf t h → c′ ≡ putLine (s h i) (k + i) (lineOf t img h i) c)
+        → InGroup n (i + 1) c₀ c′
+    group-turn c′ v m l ev em q =
+        record { few = f .few; ends = f .ends; within = omega arith; so-far = q g ev em ∙ (let p = f .so-far in rw (p, add-one i)) }
+
+    pub group-end : n ≤ i → c ≡ putLines s t img g k n c₀
+    group-end h = let e : i ≡ n = omega (arith, f .within) in let p = f .so-far in rw e at p
+
+  -- no column has another length
+  module _ (n i : ℕ) (im im′ : List ℕ) (r r′ : List ℤ) (u u′ : List ℕ) (a a′ b b′ : List ℤ) (f : InGroup n i (kept im r u a b) (kept im′ r′ u′ a′ b′)) where
+    pub group-raw : length r′ ≡ length r
+    group-raw = ap (λ (z : Kept). length (z .raw)) (f .so-far) ∙ lines-raw i (kept im r u a b)
+
+    pub group-state : length u′ ≡ length u
+    group-state = ap (λ (z : Kept). length (z .state)) (f .so-far) ∙ lines-state i (kept im r u a b)
+
+    pub group-first : length a′ ≡ length a
+    group-first = ap (λ (z : Kept). length (z .first)) (f .so-far) ∙ lines-first i (kept im r u a b)
+
+    pub group-second : length b′ ≡ length b
+    group-second = ap (λ (z : Kept). length (z .second)) (f .so-far) ∙ lines-second i (kept im r u a b)
+
+-- one turn more leaves less to do
+pub turn-less : (n i : ℕ) → i < n → n - (i + 1) < n - i
+turn-less n i h = omega arith
+
+pub ruleset group-lines = (group-none, group-passed, passed-is, line-fits, index-fits, group-turn, group-end, group-raw, group-state, group-first, group-second, turn-less, needs)
 
 -- ---- the loop: k₀ is what was kept at its start, c what is kept now
 module _ (s : ℕ → ℕ → Bool) (t img : List ℕ) (k₀ : Kept) where
@@ -154,7 +191,7 @@ module _ (s : ℕ → ℕ → Bool) (t img : List ℕ) (k₀ : Kept) where
     next : {A : Type 0} (w : ℕ → ℕ → A) (d : A) (l₀ l : List A) → i ≡ counts g → Column w d l₀ l g i → Column w d l₀ l (g + 1) 0
     next {A} w d l₀ l e h = h ∙ ap (λ (z : List A). laidOver z l₀) (upto-next (keep s w d l₀) counts g i e)
 
-    pub refresh-next : (n m : ℕ) → n ≡ groups t → m ≡ counts g → g < n → m ≤ i → Refreshing (g + 1) 0 k c
+    refresh-next : (n m : ℕ) → n ≡ groups t → m ≡ counts g → g < n → m ≤ i → Refreshing (g + 1) 0 k c
     refresh-next n m pn pm lt h =
         let e : i ≡ counts g = omega (arith, f .index) in
         record {
@@ -169,10 +206,10 @@ module _ (s : ℕ → ℕ → Bool) (t img : List ℕ) (k₀ : Kept) where
         }
 
     module _ (enough : sumBelow (groups t) counts ≤ room k₀) where
-      pub line-below : (n m : ℕ) → n ≡ groups t → m ≡ counts g → g < n → i < m → k < room k₀
+      line-below : (n m : ℕ) → n ≡ groups t → m ≡ counts g → g < n → i < m → k < room k₀
       line-below n m pn pm lt h = let b : sumBelow g counts + counts g ≤ sumBelow (groups t) counts = sum-in counts g (groups t) (omega arith) in omega (arith, f .line)
 
-      pub refresh-turn : (n m : ℕ) (c′ : Kept) → n ≡ groups t → m ≡ counts g → g < n → i < m → c′ ≡ putLine (s g i) k (lineOf t img g i) c → Refreshing g (i + 1) (k + 1) c′
+      refresh-turn : (n m : ℕ) (c′ : Kept) → n ≡ groups t → m ≡ counts g → g < n → i < m → c′ ≡ putLine (s g i) k (lineOf t img g i) c → Refreshing g (i + 1) (k + 1) c′
       refresh-turn n m c′ pn pm lt h e =
           let b : k < room k₀ = line-below n m pn pm lt h in
           record {
@@ -201,8 +238,8 @@ module _ (s : ℕ → ℕ → Bool) (t img : List ℕ) (k₀ : Kept) where
         at-second = length-at _ counts (k₀ .second) (c .second) g i (omega arith) (f .seconds)
 
       -- the lines of the next group have room
-      pub group-room : (n m : ℕ) → n ≡ groups t → m ≡ counts g → g < n → i ≡ 0 → k + m ≤ room c
-      group-room n m pn pm lt e =
+      next-room : (n m : ℕ) → n ≡ groups t → m ≡ counts g → g < n → i ≡ 0 → k + m ≤ room c
+      next-room n m pn pm lt e =
           let b : sumBelow g counts + counts g ≤ sumBelow (groups t) counts = sum-in counts g (groups t) (omega arith) in
           let z : sumBelow g counts + i ≤ room k₀ = omega arith in
           omega (arith, f .line, at-raw z, at-state z, at-first z, at-second z)
@@ -217,23 +254,23 @@ module _ (s : ℕ → ℕ → Bool) (t img : List ℕ) (k₀ : Kept) where
         done-lines : sumBelow g counts + i ≤ room k₀
         done-lines = let z : sumBelow g counts ≡ sumBelow (groups t) counts = ap (λ (y : ℕ). sumBelow y counts) at-end in omega (arith, no-index)
 
-        pub raw-length : length (c .raw) ≡ length (k₀ .raw)
+        raw-length : length (c .raw) ≡ length (k₀ .raw)
         raw-length = at-raw done-lines
 
-        pub state-length : length (c .state) ≡ length (k₀ .state)
+        state-length : length (c .state) ≡ length (k₀ .state)
         state-length = at-state done-lines
 
-        pub first-length : length (c .first) ≡ length (k₀ .first)
+        first-length : length (c .first) ≡ length (k₀ .first)
         first-length = at-first done-lines
 
-        pub second-length : length (c .second) ≡ length (k₀ .second)
+        second-length : length (c .second) ≡ length (k₀ .second)
         second-length = at-second done-lines
 
         whole : {A : Type 0} (w : ℕ → ℕ → A) (d : A) (l₀ l : List A) → Column w d l₀ l g i → l ≡ fresh s w d counts (groups t) l₀
         unfolding fresh
         whole w d l₀ l e = e ∙ rw (no-index, at-end, upto-all)
 
-        pub refresh-end : c .image ≡ img → c ≡ refreshed s t img k₀
+        refresh-end : c .image ≡ img → c ≡ refreshed s t img k₀
         unfolding refreshed
         refresh-end e = λ j. record {
           image = e j;
@@ -251,16 +288,52 @@ module _ (s : ℕ → ℕ → Bool) (t img : List ℕ) (k₀ : Kept) where
         let e : k + suc i ≡ k + i + 1 = omega arith in
         rw (e, ← add-one i) (refresh-turn g i (k + i) (putLines s t img g k i c) (lines-on i (omega arith)) enough n m (putLines s t img g k (suc i) c) pn pm lt (omega arith) refl)
 
-    pub refresh-group : (c′ : Kept) → c′ ≡ putLines s t img g k m c → Refreshing (g + 1) 0 (k + m) c′
+    refresh-group : (c′ : Kept) → c′ ≡ putLines s t img g k m c → Refreshing (g + 1) 0 (k + m) c′
     refresh-group c′ e = rw e (refresh-next g m (k + m) (putLines s t img g k m c) (lines-on m (omega arith)) n m pn pm lt (omega arith))
 
-    pub group-below : k + m ≤ room k₀
+    group-below : k + m ≤ room k₀
     group-below =
         let b : sumBelow g counts + counts g ≤ sumBelow (groups t) counts = sum-in counts g (groups t) (omega arith) in
         omega (arith, f .line)
 
-    pub group-fits : k + m ≤ room c
-    group-fits = group-room g 0 k c f enough n m pn pm lt refl
+  -- what the loop over the n groups keeps: c is k₀ with the lines of the groups below g worked out, k lines
+  pub record InList (n g k : ℕ) (c : Kept) : Type 0 where
+    pub count : n ≡ groups t
+    pub enough : sumBelow (groups t) counts ≤ room k₀
+    pub addressed : room k₀ < 2 ^ 64
+    pub so-far : Refreshing g 0 k c
+
+  module _ (n g k : ℕ) (c : Kept) (f : InList n g k c) where
+    module _ (m : ℕ) (lt : g < n) (pm : m ≡ counts g) where
+      pub next-fits : Fits w64 (k + m)
+      next-fits = record { fits = omega (arith, group-below g k c (f .so-far) (f .enough) n m (f .count) pm lt, f .addressed) }
+
+      pub list-turn : (c′ : Kept) → c′ ≡ putLines s t img g k m c → InList n (g + 1) (k + m) c′
+      list-turn c′ e =
+          record { count = f .count; enough = f .enough; addressed = f .addressed; so-far = refresh-group g k c (f .so-far) (f .enough) n m (f .count) pm lt c′ e }
+
+    pub list-end : n ≤ g → c .image ≡ img → c ≡ refreshed s t img k₀
+    list-end h e = refresh-end g 0 k c (f .so-far) (f .enough) n (f .count) h e
+
+-- the same by columns
+module _ (s : ℕ → ℕ → Bool) (t img im im′ : List ℕ) (r r′ : List ℤ) (u u′ : List ℕ) (a a′ b b′ : List ℤ) (n g k : ℕ) (f : InList s t img (kept im r u a b) n g k (kept im′ r′ u′ a′ b′)) where
+  pub group-room : (m : ℕ) → g < n → m ≡ elements (tablesIn t) g → k + m ≤ min (min (length r′) (length u′)) (min (length a′) (length b′))
+  group-room m lt pm = next-room s t img (kept im r u a b) g 0 k (kept im′ r′ u′ a′ b′) (f .so-far) (f .enough) n m (f .count) pm lt refl
+
+  module _ (h : n ≤ g) where
+    pub list-raw : length r′ ≡ length r
+    list-raw = raw-length s t img (kept im r u a b) g 0 k (kept im′ r′ u′ a′ b′) (f .so-far) (f .enough) n (f .count) h
+
+    pub list-state : length u′ ≡ length u
+    list-state = state-length s t img (kept im r u a b) g 0 k (kept im′ r′ u′ a′ b′) (f .so-far) (f .enough) n (f .count) h
+
+    pub list-first : length a′ ≡ length a
+    list-first = first-length s t img (kept im r u a b) g 0 k (kept im′ r′ u′ a′ b′) (f .so-far) (f .enough) n (f .count) h
+
+    pub list-second : length b′ ≡ length b
+    list-second = second-length s t img (kept im r u a b) g 0 k (kept im′ r′ u′ a′ b′) (f .so-far) (f .enough) n (f .count) h
+
+pub ruleset list-lines = (refresh-start, group-room, next-fits, list-turn, list-end, list-raw, list-state, list-first, list-second, turn-less, needs)
 
 -- ---- making a list
 pub refreshed-all : (t : List ℕ) (k : Kept) (s : ℕ → ℕ → Bool) → ((g i : ℕ) → s g i ≡ true) → refreshed s t (k .image) k ≡ remade t k

@@ -1,3 +1,4 @@
+-- `list::apart::has_byte` meets its contract. Assumes nothing.
 use Rattle.list.proofs.apart.has_byte.Statement.{statement}
 use Rattle.list.proofs.apart.has_byte.Tie as tie
 use Rattle.list.proofs.ApartLaws.{aparts}

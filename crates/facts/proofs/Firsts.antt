@@ -13,7 +13,8 @@ use Rattle.text.proofs.Within.{by-test, or-case}
 use Rattle.records.specs.Records.{count, slot}
 use Rattle.records.proofs.Encode.{Good}
 use Rattle.rows.specs.Sections.{sections, table, entry}
-use Rattle.rows.specs.Rows.{rows, rowCells, paramCells, rowCell, paramCell}
+use Rattle.rows.specs.Rows.{rows}
+use Rattle.rows.specs.Numbered.{rowAt, allParams, paramAt}
 use Rattle.grammar.specs.Move.{View, view, idle, writes, applied}
 use Rattle.grammar.specs.Parameter.{kindOf, slotOf, secOf, keeping, newRecord}
 use Rattle.grammar.specs.Keyword.{counting}
@@ -23,7 +24,7 @@ use Rattle.grammar.specs.declared.state.Act.{Act}
 use Rattle.facts.proofs.Slots.{clear-slot, other-slot, written-slot, more-records, start-slot}
 use Rattle.facts.proofs.Moves.{wideOf, Cases}
 use Rattle.facts.proofs.Readings.{read-has}
-use Rattle.facts.proofs.Tests.{each-param, each-row, implied}
+use Rattle.facts.proofs.Tests.{ofParam, each-param, ofRow, each-row, implied}
 
 -- ---- what the tables say
 
@@ -38,16 +39,16 @@ keptTest k s n c = not (eqb c table) || (ltb 2 s || leb (s + wideOf k) 2)
 abbrev onceTest : ℕ → ℕ → Bool
 onceTest c o = not (eqb c table) || (ltb 2 o || leb (o + 1) 2)
 
-holds-entries : (p : ℕ) → newTest (paramCell p 0) (paramCell p 1) (paramCell p 2) (paramCell p 3) ≡ true
-unfolding rows paramCells
+holds-entries : (p : ℕ) → ofParam newTest (paramAt p) ≡ true
+unfolding rows allParams
 holds-entries = each-param newTest refl refl
 
-none-kept : (p : ℕ) → keptTest (paramCell p 0) (paramCell p 1) (paramCell p 2) (paramCell p 3) ≡ true
-unfolding rows paramCells wideOf
+none-kept : (p : ℕ) → ofParam keptTest (paramAt p) ≡ true
+unfolding rows allParams wideOf
 none-kept = each-param keptTest refl refl
 
-none-counted : (i : ℕ) → onceTest (rowCell i 3) (rowCell i 4) ≡ true
-unfolding rows rowCells
+none-counted : (i : ℕ) → ofRow onceTest (rowAt i) ≡ true
+unfolding rows
 none-counted = each-row onceTest refl refl
 
 -- ---- one step
@@ -65,8 +66,8 @@ by-side s w (inr h) = inr (leb-true (s + w) 2 h)
 
 clear-counting : (v : View) (i : ℕ) → Clear (counting v i)
 clear-counting v i =
-    by-test Clear (eqb (rowCell i 4) 0) (λ t. clear-idle)
-    (λ t e. by-side (rowCell i 4) 1 (or-case (ltb 2 (rowCell i 4)) _ (implied (eqb (rowCell i 3) table) _ (none-counted i) (eq-eqb (rowCell i 3) table (sym e)))))
+    by-test Clear (eqb (rowAt i .once) 0) (λ t. clear-idle)
+    (λ t e. by-side (rowAt i .once) 1 (or-case (ltb 2 (rowAt i .once)) _ (implied (eqb (rowAt i .sec) table) _ (none-counted i) (eq-eqb (rowAt i .sec) table (sym e)))))
 
 clear-keeping : (s : State) (x y z : ℕ) → Clear (keeping s (wideOf (kindOf s)) x y z)
 unfolding keeping

@@ -16,7 +16,8 @@ use Rattle.records.specs.Records.{widthOf, count, slot}
 use Rattle.records.proofs.Encode.{Good}
 use Rattle.rows.specs.Codes.{FILE}
 use Rattle.rows.specs.Sections.{sections, entry, object, axis, none}
-use Rattle.rows.specs.Rows.{rows, rowCells, paramCells, rowCell, paramCell}
+use Rattle.rows.specs.Rows.{rows}
+use Rattle.rows.specs.Numbered.{rowAt, allParams, paramAt}
 use Rattle.grammar.specs.Move.{View, view, decimalSlots, state, items, idle, writes, applied}
 use Rattle.grammar.specs.Parameter.{kindOf, slotOf, nextOf, secOf, keeping, newRecord, decimalIn}
 use Rattle.grammar.specs.Keyword.{counting}
@@ -26,21 +27,21 @@ use Rattle.grammar.specs.declared.state.Act.{Act}
 use Rattle.facts.proofs.Slots.{clear-slot, other-slot, written-slot, same-count}
 use Rattle.facts.proofs.Moves.{wideOf, threeOf, Fits, Cases}
 use Rattle.facts.proofs.Readings.{read-has}
-use Rattle.facts.proofs.Tests.{each-param, each-row, implied, differ}
+use Rattle.facts.proofs.Tests.{ofParam, each-param, ofRow, each-row, implied, differ}
 
 -- ---- what the tables say
 
 -- an upper limit of a record of section j is to come, at parameter p or one after it, f of them at most
 unfoldable upperFrom : ℕ → ℕ → ℕ → Bool
 upperFrom zero j p = false
-upperFrom (suc f) j p = cond (eqb (paramCell p 0) 10) (eqb (paramCell p 3) j) (upperFrom f j (paramCell p 2))
+upperFrom (suc f) j p = cond (eqb (paramAt p .param .kind) 10) (eqb (paramAt p .sec) j) (upperFrom f j (paramAt p .next))
 
 -- the same at a parameter that makes no record, by its kind, its next and its section
 unfoldable awaitsAt : ℕ → ℕ → ℕ → ℕ → Bool
 awaitsAt j k n c = not (eqb k 6) && cond (eqb k 10) (eqb c j) (upperFrom 10 j n)
 
 unfoldable awaits : ℕ → ℕ → Bool
-awaits j p = awaitsAt j (paramCell p 0) (paramCell p 2) (paramCell p 3)
+awaits j p = awaitsAt j (paramAt p .param .kind) (paramAt p .next) (paramAt p .sec)
 
 -- The tests, for section j with the lower limit from slot lo on. Where an upper limit is to come, it comes with this parameter or at the next
 abbrev onTest : ℕ → ℕ → ℕ → ℕ → ℕ → Bool
@@ -75,15 +76,15 @@ record Says (j lo : ℕ) : Type 0 where
   other : j ≡ entry → ⊥
   some : j ≡ none → ⊥
   nothing : awaits j 0 ≡ false
-  on : (p : ℕ) → onTest j (paramCell p 0) (paramCell p 1) (paramCell p 2) (paramCell p 3) ≡ true
-  pairless : (p : ℕ) → pairsTest j (paramCell p 0) (paramCell p 1) (paramCell p 2) (paramCell p 3) ≡ true
-  textless : (p : ℕ) → textTest j (paramCell p 0) (paramCell p 1) (paramCell p 2) (paramCell p 3) ≡ true
-  upper : (p : ℕ) → upperTest j lo (paramCell p 0) (paramCell p 1) (paramCell p 2) (paramCell p 3) ≡ true
-  kept : (p : ℕ) → keptTest j lo (paramCell p 0) (paramCell p 1) (paramCell p 2) (paramCell p 3) ≡ true
-  once : (i : ℕ) → onceTest j lo (rowCell i 3) (rowCell i 4) ≡ true
+  on : (p : ℕ) → ofParam (onTest j) (paramAt p) ≡ true
+  pairless : (p : ℕ) → ofParam (pairsTest j) (paramAt p) ≡ true
+  textless : (p : ℕ) → ofParam (textTest j) (paramAt p) ≡ true
+  upper : (p : ℕ) → ofParam (upperTest j lo) (paramAt p) ≡ true
+  kept : (p : ℕ) → ofParam (keptTest j lo) (paramAt p) ≡ true
+  once : (i : ℕ) → ofRow (onceTest j lo) (rowAt i) ≡ true
 
 objects : Says object 13
-unfolding sections rows paramCells rowCells paramCell upperFrom awaitsAt awaits touches wideOf
+unfolding sections rows allParams paramAt upperFrom awaitsAt awaits touches wideOf
 objects = record {
   past = omega arith;
   wide = omega arith;
@@ -99,7 +100,7 @@ objects = record {
 }
 
 axes : Says axis 7
-unfolding sections rows paramCells rowCells paramCell upperFrom awaitsAt awaits touches wideOf
+unfolding sections rows allParams paramAt upperFrom awaitsAt awaits touches wideOf
 axes = record {
   past = omega arith;
   wide = omega arith;
@@ -122,40 +123,40 @@ Ordered j lo d i = atMost (decimalSlots (view d) j i lo) (decimalSlots (view d) 
 
 module _ (j lo : ℕ) (f : Says j lo) where
   module _ (p : ℕ) (w : awaits j p ≡ true) where
-    goes-on : (paramCell p 0 ≡ 10) ⊎ (awaits j (paramCell p 2) ≡ true)
+    goes-on : (paramAt p .param .kind ≡ 10) ⊎ (awaits j (paramAt p .next) ≡ true)
     unfolding awaits
-    goes-on = by-case (or-case (eqb (paramCell p 0) 10) (awaits j (paramCell p 2)) (implied (awaits j p) _ (f .on p) w)) where
-      by-case : (eqb (paramCell p 0) 10 ≡ true) ⊎ (awaits j (paramCell p 2) ≡ true) → (paramCell p 0 ≡ 10) ⊎ (awaits j (paramCell p 2) ≡ true)
-      by-case (inl h) = inl (eqb-true (paramCell p 0) 10 h)
+    goes-on = by-case (or-case (eqb (paramAt p .param .kind) 10) (awaits j (paramAt p .next)) (implied (awaits j p) _ (f .on p) w)) where
+      by-case : (eqb (paramAt p .param .kind) 10 ≡ true) ⊎ (awaits j (paramAt p .next) ≡ true) → (paramAt p .param .kind ≡ 10) ⊎ (awaits j (paramAt p .next) ≡ true)
+      by-case (inl h) = inl (eqb-true (paramAt p .param .kind) 10 h)
       by-case (inr h) = inr h
 
-    no-pairs : paramCell p 0 ≡ 11 → ⊥
+    no-pairs : paramAt p .param .kind ≡ 11 → ⊥
     unfolding awaits
-    no-pairs = differ (paramCell p 0) 11 (implied (awaits j p) _ (f .pairless p) w)
+    no-pairs = differ (paramAt p .param .kind) 11 (implied (awaits j p) _ (f .pairless p) w)
 
-    no-text : paramCell p 0 ≡ 13 → ⊥
+    no-text : paramAt p .param .kind ≡ 13 → ⊥
     unfolding awaits
-    no-text = differ (paramCell p 0) 13 (implied (awaits j p) _ (f .textless p) w)
+    no-text = differ (paramAt p .param .kind) 13 (implied (awaits j p) _ (f .textless p) w)
 
     -- one that comes with the parameter is of the section
-    of-section : paramCell p 0 ≡ 10 → paramCell p 3 ≡ j
+    of-section : paramAt p .param .kind ≡ 10 → paramAt p .sec ≡ j
     unfolding awaits awaitsAt
-    of-section e = eqb-true (paramCell p 3) j (rw e at w)
+    of-section e = eqb-true (paramAt p .sec) j (rw e at w)
 
-  calm-new : (p : ℕ) → paramCell p 0 ≡ 6 → awaits j p ≡ false
+  calm-new : (p : ℕ) → paramAt p .param .kind ≡ 6 → awaits j p ≡ false
   unfolding awaits awaitsAt
   calm-new p e = rw e
 
-  calm-text : (p : ℕ) → paramCell p 0 ≡ 13 → awaits j p ≡ false
+  calm-text : (p : ℕ) → paramAt p .param .kind ≡ 13 → awaits j p ≡ false
   calm-text p e = by-bit (awaits j p) refl where
     by-bit : (b : Bool) → awaits j p ≡ b → b ≡ false
     by-bit true w = absurd (no-text p w e)
     by-bit false w = refl
 
-  upper-slot : (p : ℕ) → paramCell p 0 ≡ 10 → paramCell p 3 ≡ j → paramCell p 1 ≡ lo + 3
+  upper-slot : (p : ℕ) → paramAt p .param .kind ≡ 10 → paramAt p .sec ≡ j → paramAt p .param .slot ≡ lo + 3
   upper-slot p e q =
-      eqb-true (paramCell p 1) (lo + 3)
-      (implied (eqb (paramCell p 0) 10 && eqb (paramCell p 3) j) _ (f .upper p) (rw (eq-eqb (paramCell p 0) 10 e, eq-eqb (paramCell p 3) j q)))
+      eqb-true (paramAt p .param .slot) (lo + 3)
+      (implied (eqb (paramAt p .param .kind) 10 && eqb (paramAt p .sec) j) _ (f .upper p) (rw (eq-eqb (paramAt p .param .kind) 10 e, eq-eqb (paramAt p .sec) j q)))
 
   -- an act that writes none of the limits' slots
   abbrev Clear : Act → Type 0
@@ -166,11 +167,11 @@ module _ (j lo : ℕ) (f : Says j lo) where
 
   clear-counting : (v : View) (i : ℕ) → Clear (counting v i)
   clear-counting v i =
-      by-test Clear (eqb (rowCell i 4) 0) (λ t. clear-idle)
-      (λ t k l u e. by-side (or-case _ _ (implied (eqb (rowCell i 3) j) _ (f .once i) (eq-eqb (rowCell i 3) j (sym e)))) k l u) where
-        by-side : (ltb (rowCell i 4) lo ≡ true) ⊎ (ltb (lo + 5) (rowCell i 4) ≡ true) → (k : ℕ) → lo ≤ k → k ≤ lo + 5 → (k < rowCell i 4) ⊎ (rowCell i 4 + 1 ≤ k)
-        by-side (inl h) k l u = inr (omega (arith, ltb-true (rowCell i 4) lo h))
-        by-side (inr h) k l u = inl (omega (arith, ltb-true (lo + 5) (rowCell i 4) h))
+      by-test Clear (eqb (rowAt i .once) 0) (λ t. clear-idle)
+      (λ t k l u e. by-side (or-case _ _ (implied (eqb (rowAt i .sec) j) _ (f .once i) (eq-eqb (rowAt i .sec) j (sym e)))) k l u) where
+        by-side : (ltb (rowAt i .once) lo ≡ true) ⊎ (ltb (lo + 5) (rowAt i .once) ≡ true) → (k : ℕ) → lo ≤ k → k ≤ lo + 5 → (k < rowAt i .once) ⊎ (rowAt i .once + 1 ≤ k)
+        by-side (inl h) k l u = inr (omega (arith, ltb-true (rowAt i .once) lo h))
+        by-side (inr h) k l u = inl (omega (arith, ltb-true (lo + 5) (rowAt i .once) h))
 
   -- a parameter that is kept is the upper limit, writes none of the limits' slots, or an upper limit is to come after it
   abbrev Aside : State → Act → Type 0

@@ -27,7 +27,8 @@ use Rattle.words.specs.Kind as word
 use Rattle.words.specs.Class.{classAt}
 use Rattle.rows.specs.Codes.{FILE, PROJECT}
 use Rattle.rows.specs.Sections.{sections, entry}
-use Rattle.rows.specs.Rows.{rowCell, needCells}
+use Rattle.rows.specs.Rows.{needed}
+use Rattle.rows.specs.Numbered.{rowAt, firstParam}
 use Rattle.rows.specs.Row.{outside}
 use Rattle.grammar.specs.Move.{View, state, items, begun, ended, finished, idle, writes, Move, went, over, refused}
 use Rattle.grammar.specs.Parameter.{aName, aString, aNumber, aBegin, anEnd, wrong, kindOf, slotOf, nextOf, secOf, lowOf, highOf, after, keeping, signOf, takenWhole, takenPairs, decimalIn, twice, newRecord, takenEntry, takenDecimal, ofNumber, takenNumber, find, takenNew, ofChoice, takenName, afterText, takenText, wantsText, wantsName, taken}
@@ -166,13 +167,13 @@ module _ (x : List ℕ) (v : View) (s : State) (P : State → Act → Type 0) (z
       unfolding stands
       stands-goes i inner =
           by-test G (not (mayStand v i)) (λ t. inl refl) λ t.
-          by-test G (isOften v i) (λ u. inl refl) λ u. (omega arith, l, (λ q. absurd (q refl)), λ r. c .standing o (state items inner (rowCell i 9) 0) i)
+          by-test G (isOften v i) (λ u. inl refl) λ u. (omega arith, l, (λ q. absurd (q refl)), λ r. c .standing o (state items inner (firstParam i) 0) i)
 
       plain-goes : (i : ℕ) → G (plainRow v s i a e)
       unfolding plainRow
       plain-goes i =
           by-test G (not (isRow i)) (λ t. inl refl) λ t.
-          by-test G (eqb (rowCell i 2) outside) (λ u. inl refl) λ u. stands-goes i (s .block)
+          by-test G (eqb (rowAt i .opens) outside) (λ u. inl refl) λ u. stands-goes i (s .block)
 
       bare-goes : (w : word.Kind) → G (bareWord v s a e w)
       bare-goes (word.takenPlain k) = plain-goes (rowOf (s .block) k)
@@ -208,7 +209,7 @@ module _ (x : List ℕ) (v : View) (s : State) (P : State → Act → Type 0) (z
       unfolding ends
       ends-goes =
           by-test G (eqb (s .block) FILE) (λ t. inl refl) λ t.
-          by-test G (allMet (length needCells) v (s .block) 0) (λ u. rest ended (s .block)) (λ u. inl refl)
+          by-test G (allMet (length needed) v (s .block) 0) (λ u. rest ended (s .block)) (λ u. inl refl)
 
       closes-goes : G (closes s a e)
       closes-goes = by-test G (eqb (s .block) PROJECT) (λ t. rest finished FILE) (λ t. rest items (holderOf (s .block)))

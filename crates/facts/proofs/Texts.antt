@@ -13,7 +13,8 @@ use Rattle.text.proofs.Within.{by-test, and-left, and-right, or-case}
 use Rattle.records.specs.Records.{widthOf, count, slot}
 use Rattle.records.proofs.Encode.{Good}
 use Rattle.rows.specs.Sections.{sections, method, table, entry, layout, object, axis}
-use Rattle.rows.specs.Rows.{rows, rowCells, paramCells, rowCell, paramCell}
+use Rattle.rows.specs.Rows.{rows}
+use Rattle.rows.specs.Numbered.{rowAt, allParams, paramAt}
 use Rattle.grammar.specs.Move.{View, view, idle, writes, values, applied}
 use Rattle.grammar.specs.Parameter.{kindOf, slotOf, secOf, keeping, newRecord}
 use Rattle.grammar.specs.Keyword.{counting}
@@ -52,9 +53,9 @@ entryTest j k = not (eqb j entry) || (eqb k 2 || leb 4 k)
 unfoldable pub isText : ℕ → ℕ → Bool
 isText j k =
     (ltb (k + 1) (widthOf sections j) && entryTest j k)
-    && ((keptTest j k 0 0 0 0 && every (ofParam (keptTest j k)) paramCells)
-    && ((newTest j k 0 0 0 0 && every (ofParam (newTest j k)) paramCells)
-    && (onceTest j k 0 0 && every (ofRow (onceTest j k)) rowCells)))
+    && ((keptTest j k 0 0 0 0 && every (ofParam (keptTest j k)) allParams)
+    && ((newTest j k 0 0 0 0 && every (ofParam (newTest j k)) allParams)
+    && (onceTest j k 0 0 && every (ofRow (onceTest j k)) rows)))
 
 both : (a b : Bool) → (a && b) ≡ true → (a ≡ true) × (b ≡ true)
 both a b h = (and-left a b h, and-right a b h)
@@ -62,20 +63,20 @@ both a b h = (and-left a b h, and-right a b h)
 record Says (j k : ℕ) : Type 0 where
   wide : k + 1 < widthOf sections j
   pair : entryTest j k ≡ true
-  kept : (p : ℕ) → keptTest j k (paramCell p 0) (paramCell p 1) (paramCell p 2) (paramCell p 3) ≡ true
-  new : (p : ℕ) → newTest j k (paramCell p 0) (paramCell p 1) (paramCell p 2) (paramCell p 3) ≡ true
-  once : (i : ℕ) → onceTest j k (rowCell i 3) (rowCell i 4) ≡ true
+  kept : (p : ℕ) → ofParam (keptTest j k) (paramAt p) ≡ true
+  new : (p : ℕ) → ofParam (newTest j k) (paramAt p) ≡ true
+  once : (i : ℕ) → ofRow (onceTest j k) (rowAt i) ≡ true
 
 says : (j k : ℕ) → isText j k ≡ true → Says j k
 unfolding isText
 says j k h =
     let a = both (ltb (k + 1) (widthOf sections j) && entryTest j k) _ h in
     let b = both (ltb (k + 1) (widthOf sections j)) (entryTest j k) (a .0) in
-    let c = both (keptTest j k 0 0 0 0 && every (ofParam (keptTest j k)) paramCells) _ (a .1) in
-    let e = both (keptTest j k 0 0 0 0) (every (ofParam (keptTest j k)) paramCells) (c .0) in
-    let l = both (newTest j k 0 0 0 0 && every (ofParam (newTest j k)) paramCells) (onceTest j k 0 0 && every (ofRow (onceTest j k)) rowCells) (c .1) in
-    let m = both (newTest j k 0 0 0 0) (every (ofParam (newTest j k)) paramCells) (l .0) in
-    let o = both (onceTest j k 0 0) (every (ofRow (onceTest j k)) rowCells) (l .1) in
+    let c = both (keptTest j k 0 0 0 0 && every (ofParam (keptTest j k)) allParams) _ (a .1) in
+    let e = both (keptTest j k 0 0 0 0) (every (ofParam (keptTest j k)) allParams) (c .0) in
+    let l = both (newTest j k 0 0 0 0 && every (ofParam (newTest j k)) allParams) (onceTest j k 0 0 && every (ofRow (onceTest j k)) rows) (c .1) in
+    let m = both (newTest j k 0 0 0 0) (every (ofParam (newTest j k)) allParams) (l .0) in
+    let o = both (onceTest j k 0 0) (every (ofRow (onceTest j k)) rows) (l .1) in
     record {
       wide = ltb-true (k + 1) (widthOf sections j) (b .0);
       pair = b .1;
@@ -102,17 +103,17 @@ module _ (j k : ℕ) (f : Says j k) where
   clear-idle e = inr (omega arith)
 
   clear-counting : (v : View) (i : ℕ) → Clear (counting v i)
-  clear-counting v i = by-test Clear (eqb (rowCell i 4) 0) (λ t. clear-idle) (λ t e. by-none t (or-case (eqb (rowCell i 4) 0) _ (counted e))) where
-    counted : j ≡ rowCell i 3 → (eqb (rowCell i 4) 0 || (ltb (rowCell i 4) k || ltb (k + 1) (rowCell i 4))) ≡ true
-    counted e = implied (eqb (rowCell i 3) j) _ (f .once i) (eq-eqb (rowCell i 3) j (sym e))
+  clear-counting v i = by-test Clear (eqb (rowAt i .once) 0) (λ t. clear-idle) (λ t e. by-none t (or-case (eqb (rowAt i .once) 0) _ (counted e))) where
+    counted : j ≡ rowAt i .sec → (eqb (rowAt i .once) 0 || (ltb (rowAt i .once) k || ltb (k + 1) (rowAt i .once))) ≡ true
+    counted e = implied (eqb (rowAt i .sec) j) _ (f .once i) (eq-eqb (rowAt i .sec) j (sym e))
 
-    by-side : (ltb (rowCell i 4) k ≡ true) ⊎ (ltb (k + 1) (rowCell i 4) ≡ true) → (k + 1 < rowCell i 4) ⊎ (rowCell i 4 + 1 ≤ k)
-    by-side (inl h) = inr (omega (arith, ltb-true (rowCell i 4) k h))
-    by-side (inr h) = inl (ltb-true (k + 1) (rowCell i 4) h)
+    by-side : (ltb (rowAt i .once) k ≡ true) ⊎ (ltb (k + 1) (rowAt i .once) ≡ true) → (k + 1 < rowAt i .once) ⊎ (rowAt i .once + 1 ≤ k)
+    by-side (inl h) = inr (omega (arith, ltb-true (rowAt i .once) k h))
+    by-side (inr h) = inl (ltb-true (k + 1) (rowAt i .once) h)
 
-    by-none : eqb (rowCell i 4) 0 ≡ false → (eqb (rowCell i 4) 0 ≡ true) ⊎ ((ltb (rowCell i 4) k || ltb (k + 1) (rowCell i 4)) ≡ true) → (k + 1 < rowCell i 4) ⊎ (rowCell i 4 + 1 ≤ k)
+    by-none : eqb (rowAt i .once) 0 ≡ false → (eqb (rowAt i .once) 0 ≡ true) ⊎ ((ltb (rowAt i .once) k || ltb (k + 1) (rowAt i .once)) ≡ true) → (k + 1 < rowAt i .once) ⊎ (rowAt i .once + 1 ≤ k)
     by-none t (inl h) = absurd (false≢true (sym t ∙ h))
-    by-none t (inr h) = by-side (or-case (ltb (rowCell i 4) k) (ltb (k + 1) (rowCell i 4)) h)
+    by-none t (inr h) = by-side (or-case (ltb (rowAt i .once) k) (ltb (k + 1) (rowAt i .once)) h)
 
   clear-pair : (a b : ℕ) → Clear (newRecord entry 2 a b 0 0)
   clear-pair a b e = by-slot (or-case (eqb k 2) (leb 4 k) (implied (eqb j entry) _ (f .pair) (eq-eqb j entry e))) where
@@ -228,30 +229,30 @@ text-some j k h x d r i z = text-told j k h x d r i .1 z
 -- ---- the texts
 
 pub method-name : isText method 0 ≡ true
-unfolding isText touches wideOf sections rows paramCells rowCells
+unfolding isText touches wideOf sections rows allParams
 method-name = refl
 
 pub table-name : isText table 0 ≡ true
-unfolding isText touches wideOf sections rows paramCells rowCells
+unfolding isText touches wideOf sections rows allParams
 table-name = refl
 
 pub layout-name : isText layout 0 ≡ true
-unfolding isText touches wideOf sections rows paramCells rowCells
+unfolding isText touches wideOf sections rows allParams
 layout-name = refl
 
 pub object-name : isText object 0 ≡ true
-unfolding isText touches wideOf sections rows paramCells rowCells
+unfolding isText touches wideOf sections rows allParams
 object-name = refl
 
 pub table-default : isText table 7 ≡ true
-unfolding isText touches wideOf sections rows paramCells rowCells
+unfolding isText touches wideOf sections rows allParams
 table-default = refl
 
 pub pair-told : isText entry 2 ≡ true
-unfolding isText touches wideOf sections rows paramCells rowCells
+unfolding isText touches wideOf sections rows allParams
 pair-told = refl
 
 -- the names of references too
 pub reference-names : (isText method 26 && (isText object 6 && (isText object 8 && (isText object 10 && (isText axis 2 && (isText axis 4 && isText axis 14)))))) ≡ true
-unfolding isText touches wideOf sections rows paramCells rowCells
+unfolding isText touches wideOf sections rows allParams
 reference-names = refl

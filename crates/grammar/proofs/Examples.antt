@@ -20,7 +20,8 @@ use Rattle.words.specs.Row.{word, bytes, same, kindIn}
 use Rattle.words.specs.Table.{wordRows as words}
 use Rattle.words.specs.Class.{classOf, classAt}
 use Rattle.rows.specs.Sections.{sections}
-use Rattle.rows.specs.Rows.{rows, needed, rowCells, paramCells, limitCells, needCells, rowCell, paramCell, limitCell, needCell}
+use Rattle.rows.specs.Rows.{rows, needed}
+use Rattle.rows.specs.Numbered.{rowAt, needAt, allParams, paramAt, firstParam}
 use Rattle.grammar.specs.Move.{applied}
 use Rattle.grammar.specs.Parameter.{wrong, keeping, takenWhole, takenDecimal, takenNumber, findFrom, takenNew, takenName, takenText, taken}
 use Rattle.grammar.specs.Keyword.{rowFrom, rowOf, oneMore, stands, plainRow, skips, opens, allMet, ends, item, afterBegin, afterEnd}
@@ -60,5 +61,5 @@ descriptions =
     ∷ []
 
 each-description : map (λ c. read (c .0)) descriptions ≡ map (λ c. c .1) descriptions
-unfolding walk over isBlank isAllowed isLetter isDigit startsName inName startsNumber pairAt sameFor samePart lineEnd commentEnd blankAt tokenEnds nameEnd nameAt stringEnd stringAt runEnd numberAt isBegin isEnd markAt tokenAt nextToken runItem itemAt nextItem tagAt closing isA2ml a2mlItem a2mlEnd blockItem blockEnd blockIn skipBlock inRun digitOf valueOn allDigits leading trailing wholeFrom wholeOf signs minus lowest made pointed decimalOf formed atMost word bytes same kindIn words classOf classAt sections rows needed rowCells paramCells limitCells needCells rowCell paramCell limitCell needCell applied wrong keeping takenWhole takenDecimal takenNumber findFrom takenNew takenName takenText taken rowFrom rowOf oneMore stands plainRow skips opens allMet ends item afterBegin afterEnd onPiece move readFrom start read
+unfolding walk over isBlank isAllowed isLetter isDigit startsName inName startsNumber pairAt sameFor samePart lineEnd commentEnd blankAt tokenEnds nameEnd nameAt stringEnd stringAt runEnd numberAt isBegin isEnd markAt tokenAt nextToken runItem itemAt nextItem tagAt closing isA2ml a2mlItem a2mlEnd blockItem blockEnd blockIn skipBlock inRun digitOf valueOn allDigits leading trailing wholeFrom wholeOf signs minus lowest made pointed decimalOf formed atMost word bytes same kindIn words classOf classAt sections rows needed rowAt needAt allParams paramAt firstParam applied wrong keeping takenWhole takenDecimal takenNumber findFrom takenNew takenName takenText taken rowFrom rowOf oneMore stands plainRow skips opens allMet ends item afterBegin afterEnd onPiece move readFrom start read
 each-description = refl

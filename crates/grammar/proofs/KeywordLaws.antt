@@ -18,7 +18,8 @@ use Rattle.words.specs.Told.{toldClass}
 use Rattle.words.specs.declared.class.Class.{Class}
 use Rattle.words.specs.declared.class.Class.the-variants as class
 use Rattle.rows.specs.Codes.{FILE}
-use Rattle.rows.specs.Rows.{rowCells, rowCell, needCells, needCell}
+use Rattle.rows.specs.Rows.{rows, needed}
+use Rattle.rows.specs.Numbered.{rowAt, firstParam, needAt}
 use Rattle.grammar.specs.Move.{View, current, state, items, begun, ended, finished, idle, went, refused, moved}
 use Rattle.grammar.specs.Parameter.{wrong}
 use Rattle.grammar.specs.Keyword.{rowFrom, rowOf, mayStand, axesOf, limitOf, isOften, oneMore, counting, stands, plainRow, homeOf, bareWord, levelsIn, ofSkip, skips, opens, begunWord, isMet, allMet, ends, holderOf, closes, endedWord, item, afterBegin, afterEnd}
@@ -31,22 +32,22 @@ use Rattle.rows.proofs.TableLaws.{row-count, need-count}
 
 -- the search from row i on finds what the search from the first finds
 abbrev pub Rowing : ℕ → ℕ → ℕ → Type 0
-Rowing b w i = rowFrom (length rowCells - i) i b w ≡ rowOf b w
+Rowing b w i = rowFrom (length rows - i) i b w ≡ rowOf b w
 
 module _ (b w : ℕ) where
   pub rowing-start : Rowing b w 0
   unfolding rowOf
-  rowing-start = let z : length rowCells - 0 ≡ length rowCells = omega arith in ap (λ n. rowFrom n 0 b w) z
+  rowing-start = let z : length rows - 0 ≡ length rows = omega arith in ap (λ n. rowFrom n 0 b w) z
 
   pub rowing-end : (i : ℕ) → Rowing b w i → 45 ≤ i → i ≡ rowOf b w
   unfolding rowFrom
-  rowing-end i q h = let z : length rowCells - i ≡ 0 = omega (arith, row-count) in rw z at q
+  rowing-end i q h = let z : length rows - i ≡ 0 = omega (arith, row-count) in rw z at q
 
   -- r says whether the row is that of the block and the word
-  module _ (i : ℕ) (q : Rowing b w i) (h : i < 45) (r : Bool) (pr : r ≡ (eqb (rowCell i 0) b && eqb (rowCell i 1) w)) where
-    looked : cond r i (rowFrom (length rowCells - (i + 1)) (suc i) b w) ≡ rowOf b w
+  module _ (i : ℕ) (q : Rowing b w i) (h : i < 45) (r : Bool) (pr : r ≡ (eqb (rowAt i .parent) b && eqb (rowAt i .word) w)) where
+    looked : cond r i (rowFrom (length rows - (i + 1)) (suc i) b w) ≡ rowOf b w
     unfolding rowFrom
-    looked = let z : length rowCells - i ≡ suc (length rowCells - (i + 1)) = omega (arith, row-count) in rw pr (rw z at q)
+    looked = let z : length rows - i ≡ suc (length rows - (i + 1)) = omega (arith, row-count) in rw pr (rw z at q)
 
     pub rowing-found : r ≡ true → i ≡ rowOf b w
     rowing-found t = rw t at looked
@@ -58,7 +59,7 @@ pub ruleset rowings = (rowing-start, rowing-end, rowing-found, rowing-on, needs)
 
 -- ---- whether a keyword may stand, how often, and counting it
 
-pub may-is : (v : View) (i w j n l h : ℕ) → w ≡ rowCell i 5 → j ≡ rowCell i 3 → n ≡ current v j w → l ≡ rowCell i 6 → h ≡ rowCell i 7 → (eqb w 0 || leb l n && leb n h) ≡ mayStand v i
+pub may-is : (v : View) (i w j n l h : ℕ) → w ≡ rowAt i .when → j ≡ rowAt i .sec → n ≡ current v j w → l ≡ rowAt i .low → h ≡ rowAt i .high → (eqb w 0 || leb l n && leb n h) ≡ mayStand v i
 may-is v i w j n l h pw pj pn pl ph = rw (pn, pl, ph, pj, pw)
 
 pub ruleset mays = (may-is, needs)
@@ -75,7 +76,7 @@ module _ (k : ℕ) where
 
 pub ruleset axed = (axes-map, axes-curve, axes-none, needs)
 
-module _ (v : View) (i j : ℕ) (pj : j ≡ rowCell i 8) where
+module _ (v : View) (i j : ℕ) (pj : j ≡ rowAt i .adds) where
   pub limit-axes : (r n : ℕ) → j ≡ 6 → n ≡ current v 5 4 → r ≡ axesOf n → r ≡ limitOf v i
   limit-axes r n h pn pr = rw (← pj, eq-eqb j 6 h, pr, pn)
 
@@ -84,7 +85,7 @@ module _ (v : View) (i j : ℕ) (pj : j ≡ rowCell i 8) where
 
 pub ruleset limits = (limit-axes, limit-one, needs)
 
-pub often-is : (v : View) (i o j n l : ℕ) → o ≡ rowCell i 4 → j ≡ rowCell i 3 → n ≡ current v j o → l ≡ limitOf v i → (not (eqb o 0) && leb l n) ≡ isOften v i
+pub often-is : (v : View) (i o j n l : ℕ) → o ≡ rowAt i .once → j ≡ rowAt i .sec → n ≡ current v j o → l ≡ limitOf v i → (not (eqb o 0) && leb l n) ≡ isOften v i
 often-is v i o j n l po pj pn pl = rw (pl, pn, pj, po)
 
 pub ruleset oftens = (often-is, needs)
@@ -100,11 +101,11 @@ module _ (n : ℕ) where
 
 pub ruleset mores = (more-one, more-none, needs)
 
-module _ (v : View) (i o : ℕ) (po : o ≡ rowCell i 4) where
+module _ (v : View) (i o : ℕ) (po : o ≡ rowAt i .once) where
   pub counting-none : (r : Act) → o ≡ 0 → r ≡ idle → r ≡ counting v i
   counting-none r h p = rw (← po, eq-eqb o 0 h, p)
 
-  pub counting-more : (j n k m : ℕ) → (o ≡ 0 → ⊥) → j ≡ rowCell i 3 → n ≡ current v j o → k ≡ rowCell i 8 → m ≡ oneMore n
+  pub counting-more : (j n k m : ℕ) → (o ≡ 0 → ⊥) → j ≡ rowAt i .sec → n ≡ current v j o → k ≡ rowAt i .adds → m ≡ oneMore n
       → _≡_ {A = Act} (record { adds = k; sec = j; slot = o; many = 1; a = m; b = 0; c = 0; d = 0 }) (counting v i)
   counting-more j n k m h pj pn pk pm = rw (pm, pn, pk, pj, ← po, ne-eqb o 0 h)
 
@@ -122,7 +123,7 @@ module _ (v : View) (i inner a e : ℕ) (b : Bool) (pb : b ≡ mayStand v i) whe
     unfolding stands
     stand-often g = rw (← pb, h, ← po, g)
 
-    pub stand-counted : (m : code.Move) (st : State) (act : Act) (p : ℕ) → o ≡ false → moved m ≡ went e st act → st ≡ state items inner p 0 → p ≡ rowCell i 9 → act ≡ counting v i → moved m ≡ stands v i inner a e
+    pub stand-counted : (m : code.Move) (st : State) (act : Act) (p : ℕ) → o ≡ false → moved m ≡ went e st act → st ≡ state items inner p 0 → p ≡ firstParam i → act ≡ counting v i → moved m ≡ stands v i inner a e
     unfolding stands
     stand-counted m st act p g pm ps pp pa = rw (pm, ps, pa, pp, ← pb, h, ← po, g)
 
@@ -130,10 +131,10 @@ pub ruleset standings = (stand-not, stand-often, stand-counted, needs)
 
 -- ---- a bare word
 
-is-row : (i : ℕ) → i < 45 → ltb i (length rowCells) ≡ true
+is-row : (i : ℕ) → i < 45 → ltb i (length rows) ≡ true
 is-row i h = rw row-count (lt-ltb i 45 h)
 
-no-row : (i : ℕ) → 45 ≤ i → ltb i (length rowCells) ≡ false
+no-row : (i : ℕ) → 45 ≤ i → ltb i (length rows) ≡ false
 no-row i h = rw row-count (le-ltb i 45 h)
 
 module _ (v : View) (s : State) (i a e : ℕ) where
@@ -141,7 +142,7 @@ module _ (v : View) (s : State) (i a e : ℕ) where
   unfolding plainRow
   plain-none h = rw (no-row i h)
 
-  module _ (h : i < 45) (o : ℕ) (po : o ≡ rowCell i 2) where
+  module _ (h : i < 45) (o : ℕ) (po : o ≡ rowAt i .opens) where
     pub plain-outside : o ≡ 2 → refused 9 a ≡ plainRow v s i a e
     unfolding plainRow
     plain-outside g = rw (is-row i h, ← po, eq-eqb o 2 g)
@@ -268,7 +269,7 @@ pub ruleset begins = (begun-opens, begun-skips, begun-plain, begun-choice, begun
 
 -- ---- `/end`, and the word after it
 
-pub met-is : (v : View) (b i j w n l h o m k q : ℕ) → j ≡ needCell i 1 → w ≡ needCell i 2 → n ≡ current v j w → l ≡ needCell i 3 → h ≡ needCell i 4 → o ≡ needCell i 5 → m ≡ current v j o → k ≡ needCell i 0 → q ≡ needCell i 6
+pub met-is : (v : View) (b i j w n l h o m k q : ℕ) → j ≡ needAt i .sec → w ≡ needAt i .when → n ≡ current v j w → l ≡ needAt i .low → h ≡ needAt i .high → o ≡ needAt i .slot → m ≡ current v j o → k ≡ needAt i .block → q ≡ needAt i .least
     → (not (eqb k b) || not (eqb w 0 || leb l n && leb n h) || leb q m) ≡ isMet v b i
 met-is v b i j w n l h o m k q pj pw pn pl ph po pm pk pq = rw (pn, pm, pl, ph, po, pk, pq, pj, pw)
 
@@ -276,7 +277,7 @@ pub ruleset mets = (met-is, needs)
 
 -- whether the needs from i on are met is whether all are
 abbrev pub Meeting : View → ℕ → ℕ → Type 0
-Meeting v b i = allMet (length needCells - i) v b i ≡ allMet (length needCells) v b 0
+Meeting v b i = allMet (length needed - i) v b i ≡ allMet (length needed) v b 0
 
 module _ (v : View) (b : ℕ) where
   met-on : (f i : ℕ) → (isMet v b i && allMet f v b (suc i)) ≡ allMet (suc f) v b i
@@ -284,18 +285,18 @@ module _ (v : View) (b : ℕ) where
   met-on f i = refl
 
   pub meeting-start : Meeting v b 0
-  meeting-start = let z : length needCells - 0 ≡ length needCells = omega arith in ap (λ n. allMet n v b 0) z
+  meeting-start = let z : length needed - 0 ≡ length needed = omega arith in ap (λ n. allMet n v b 0) z
 
-  pub meeting-end : (i : ℕ) → Meeting v b i → 9 ≤ i → true ≡ allMet (length needCells) v b 0
+  pub meeting-end : (i : ℕ) → Meeting v b i → 9 ≤ i → true ≡ allMet (length needed) v b 0
   unfolding allMet
-  meeting-end i q h = let z : length needCells - i ≡ 0 = omega (arith, need-count) in rw z at q
+  meeting-end i q h = let z : length needed - i ≡ 0 = omega (arith, need-count) in rw z at q
 
   -- r is whether need i is met
   module _ (i : ℕ) (q : Meeting v b i) (h : i < 9) (r : Bool) (pr : r ≡ isMet v b i) where
-    asked : (r && allMet (length needCells - (i + 1)) v b (suc i)) ≡ allMet (length needCells) v b 0
-    asked = let z : length needCells - i ≡ suc (length needCells - (i + 1)) = omega (arith, need-count) in rw pr (met-on (length needCells - (i + 1)) i ∙ (ap (λ n. allMet n v b i) (sym z) ∙ q))
+    asked : (r && allMet (length needed - (i + 1)) v b (suc i)) ≡ allMet (length needed) v b 0
+    asked = let z : length needed - i ≡ suc (length needed - (i + 1)) = omega (arith, need-count) in rw pr (met-on (length needed - (i + 1)) i ∙ (ap (λ n. allMet n v b i) (sym z) ∙ q))
 
-    pub meeting-not : r ≡ false → false ≡ allMet (length needCells) v b 0
+    pub meeting-not : r ≡ false → false ≡ allMet (length needed) v b 0
     meeting-not t = rw t at asked
 
     pub meeting-on : r ≡ true → Meeting v b (i + 1)
@@ -309,7 +310,7 @@ module _ (v : View) (s : State) (a e : ℕ) where
   end-file h = rw (eq-eqb (s .block) 0 h)
 
   -- r is whether all needs are met
-  module _ (h : s .block ≡ 0 → ⊥) (r : Bool) (p : r ≡ allMet (length needCells) v (s .block) 0) where
+  module _ (h : s .block ≡ 0 → ⊥) (r : Bool) (p : r ≡ allMet (length needed) v (s .block) 0) where
     pub end-met : (m : code.Move) (st : State) (act : Act) → r ≡ true → moved m ≡ went e st act → st ≡ state ended (s .block) 0 0 → act ≡ idle → moved m ≡ ends v s a e
     unfolding ends
     end-met m st act g pm ps pa = rw (pm, ps, pa, ne-eqb (s .block) 0 h, ← p, g)

@@ -1,8 +1,8 @@
 -- Parameters, by the branches that the code takes.
-use Prim.Native.Nat.{ℕ, zero, suc, _+_, _-_, _≤_, _<_, min}
+use Prim.Native.Nat.{ℕ, suc, _+_, _-_, _≤_, _<_, min}
 use mathlib.Core.Path.{_≡_, refl, sym, _∙_, ap}
 use mathlib.Core.List.{List}
-use mathlib.Core.Bool.{Bool, true, false, cond, not, _&&_, _||_}
+use mathlib.Core.Bool.{Bool, true, false, not, _&&_, _||_}
 use native.Mathlib.Omega.{arith}
 use borrow.Author.Needs.{needs}
 use borrow.Author.Tests.{lt-ltb, le-ltb, le-leb, lt-leb, eq-eqb, ne-eqb}
@@ -28,7 +28,6 @@ use Rattle.records.specs.Records.{mostOf}
 use Rattle.records.specs.Cells.{sectionIn, countIn}
 use Rattle.records.specs.declared.Section.{Section}
 use Rattle.rows.specs.Sections.{sections, entry}
-use Rattle.rows.specs.Rows.{paramCell, limitCell}
 use Rattle.grammar.specs.Move.{View, viewIn, current, decimalSlots, state, items, idle, writes, Move, went, refused, moved}
 use Rattle.grammar.specs.Parameter.{wrong, kindOf, slotOf, nextOf, secOf, lowOf, highOf, after, keeping, takenWhole, takenPairs, signOf, decimalIn, hasEntry, twice, newRecord, takenEntry, takenDecimal, ofNumber, ofPairs, ofWhole, ofDecimal, takenNumber, foundAt, find, takenNew, ofChoice, takenName, afterText, takenText, taken}
 use Rattle.grammar.specs.declared.state.State.{State}

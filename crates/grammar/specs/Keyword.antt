@@ -1,6 +1,6 @@
 -- A token where a keyword is expected: bare, after `/begin`, after `/end` (document 01, "What the reader takes" and "Numbers we answer with").
 use Prim.Native.Nat.{ℕ, zero, suc, _+_, _-_}
-use mathlib.Core.List.{List, [], _∷_}
+use mathlib.Core.List.{List}
 use mathlib.Core.Bool.{Bool, true, false, cond, not, _&&_, _||_}
 use lib.ListN.{length}
 use lib.Dec.{ltb, leb, eqb}
@@ -11,9 +11,10 @@ use Rattle.words.specs.Kind as word
 use Rattle.words.specs.Class.{classAt}
 use Rattle.rows.specs.Codes.{FILE, ANY, PROJECT, MODULE, CHARACTERISTIC, AXIS-DESCR, CURVE, MAP}
 use Rattle.rows.specs.Sections.{object, axis, none}
-use Rattle.rows.specs.Rows.{rowCells, rowCell, needCells, needCell}
+use Rattle.rows.specs.Rows.{rows, needed}
+use Rattle.rows.specs.Numbered.{rowAt, firstParam, needAt}
 use Rattle.rows.specs.Row.{outside}
-use Rattle.grammar.specs.Move.{View, current, state, items, begun, ended, finished, idle, writes, Move, went, refused}
+use Rattle.grammar.specs.Move.{View, current, state, items, begun, ended, finished, idle, Move, went, refused}
 use Rattle.grammar.specs.Parameter.{wrong, aName, aBegin, anEnd}
 use Rattle.grammar.specs.declared.state.State.{State}
 use Rattle.grammar.specs.declared.state.Act.{Act}
@@ -21,21 +22,25 @@ use Rattle.grammar.specs.declared.state.Act.{Act}
 -- the first row from i on, of f rows, of the word w in the block b; the row past them where there is none
 unfoldable pub rowFrom : ℕ → ℕ → ℕ → ℕ → ℕ
 rowFrom zero i b w = i
-rowFrom (suc f) i b w = cond (eqb (rowCell i 0) b && eqb (rowCell i 1) w) i (rowFrom f (suc i) b w)
+rowFrom (suc f) i b w = cond (eqb (rowAt i .parent) b && eqb (rowAt i .word) w) i (rowFrom f (suc i) b w)
 
 unfoldable pub rowOf : ℕ → ℕ → ℕ
-rowOf b w = rowFrom (length rowCells) 0 b w
+rowOf b w = rowFrom (length rows) 0 b w
 
 abbrev pub isRow : ℕ → Bool
-isRow i = ltb i (length rowCells)
+isRow i = ltb i (length rows)
+
+-- number n of section j's current record is from low to high (n 0: always)
+abbrev pub isWithin : View → ℕ → ℕ → ℕ → ℕ → Bool
+isWithin v j n low high = eqb n 0 || leb low (current v j n) && leb (current v j n) high
 
 -- how often the keyword of row i was there, by its counting slot in the current record
 abbrev pub seen : View → ℕ → ℕ
-seen v i = current v (rowCell i 3) (rowCell i 4)
+seen v i = current v (rowAt i .sec) (rowAt i .once)
 
 -- "an unused conversion word, NUMBER or AXIS_PTS_REF" where this is false: the keyword of row i may stand by what the current record says
 abbrev pub mayStand : View → ℕ → Bool
-mayStand v i = eqb (rowCell i 5) 0 || leb (rowCell i 6) (current v (rowCell i 3) (rowCell i 5)) && leb (current v (rowCell i 3) (rowCell i 5)) (rowCell i 7)
+mayStand v i = isWithin v (rowAt i .sec) (rowAt i .when) (rowAt i .low) (rowAt i .high)
 
 -- how many AXIS_DESCR a CHARACTERISTIC's type has ("VALUE, VAL_BLK none")
 abbrev pub axesOf : ℕ → ℕ
@@ -43,11 +48,11 @@ axesOf type = cond (eqb type MAP) 2 (cond (eqb type CURVE) 1 0)
 
 -- how often the keyword of row i may stand: no "more AXIS_DESCR than the type has"; any other once
 abbrev pub limitOf : View → ℕ → ℕ
-limitOf v i = cond (eqb (rowCell i 8) axis) (axesOf (current v object 4)) 1
+limitOf v i = cond (eqb (rowAt i .adds) axis) (axesOf (current v object 4)) 1
 
 -- "once-only keyword twice; more AXIS_DESCR than the type has": the keyword of row i, where it is counted, was there as often as it may stand
 abbrev pub isOften : View → ℕ → Bool
-isOften v i = not (eqb (rowCell i 4) 0) && leb (limitOf v i) (seen v i)
+isOften v i = not (eqb (rowAt i .once) 0) && leb (limitOf v i) (seen v i)
 
 -- one more, as far as a keyword is counted (none stands more than twice)
 unfoldable pub oneMore : ℕ → ℕ
@@ -56,15 +61,15 @@ oneMore n = cond (ltb n 255) (n + 1) 255
 -- where the keyword of row i is counted: one more, and a record more where the row says so
 abbrev pub counting : View → ℕ → Act
 counting v i =
-    cond (eqb (rowCell i 4) 0) idle
-    (record { adds = rowCell i 8; sec = rowCell i 3; slot = rowCell i 4; many = 1; a = oneMore (seen v i); b = 0; c = 0; d = 0 })
+    cond (eqb (rowAt i .once) 0) idle
+    (record { adds = rowAt i .adds; sec = rowAt i .sec; slot = rowAt i .once; many = 1; a = oneMore (seen v i); b = 0; c = 0; d = 0 })
 
 -- the keyword of row i, from a up to e: where it may stand, its parameters are next, and the block is then `inner`
 unfoldable pub stands : View → ℕ → ℕ → ℕ → ℕ → Move
 stands v i inner a e =
     cond (not (mayStand v i)) (refused 5 a)
     (cond (isOften v i) (refused 6 a)
-    (went e (state items inner (rowCell i 9) 0) (counting v i)))
+    (went e (state items inner (firstParam i) 0) (counting v i)))
 
 -- ---- a bare word
 
@@ -72,7 +77,7 @@ stands v i inner a e =
 unfoldable pub plainRow : View → State → ℕ → ℕ → ℕ → Move
 plainRow v s i a e =
     cond (not (isRow i)) (refused 5 a)
-    (cond (eqb (rowCell i 2) outside) (refused 9 a)
+    (cond (eqb (rowAt i .opens) outside) (refused 9 a)
     (stands v i (s .block) a e))
 
 -- the block whose rows have the keywords that are skipped: one for every block, and one for "the two versions also before PROJECT"
@@ -122,9 +127,9 @@ begunWord x v s a e word.unlisted = refused 4 a
 -- need i is met in the block b: it is another block's, or the current record does not ask for it, or it is there often enough
 abbrev pub isMet : View → ℕ → ℕ → Bool
 isMet v b i =
-    not (eqb (needCell i 0) b)
-    || not (eqb (needCell i 2) 0 || leb (needCell i 3) (current v (needCell i 1) (needCell i 2)) && leb (current v (needCell i 1) (needCell i 2)) (needCell i 4))
-    || leb (needCell i 6) (current v (needCell i 1) (needCell i 5))
+    not (eqb (needAt i .block) b)
+    || not (isWithin v (needAt i .sec) (needAt i .when) (needAt i .low) (needAt i .high))
+    || leb (needAt i .least) (current v (needAt i .sec) (needAt i .slot))
 
 -- so many needs from i on are met
 unfoldable pub allMet : ℕ → View → ℕ → ℕ → Bool
@@ -135,7 +140,7 @@ allMet (suc f) v b i = isMet v b i && allMet f v b (suc i)
 unfoldable pub ends : View → State → ℕ → ℕ → Move
 ends v s a e =
     cond (eqb (s .block) FILE) (refused 3 a)
-    (cond (allMet (length needCells) v (s .block) 0) (went e (state ended (s .block) 0 0) idle) (refused 5 a))
+    (cond (allMet (length needed) v (s .block) 0) (went e (state ended (s .block) 0 0) idle) (refused 5 a))
 
 -- the block that holds b
 abbrev pub holderOf : ℕ → ℕ

@@ -1,8 +1,7 @@
 -- A token where a parameter is expected (document 01, "Words and numbers" and "Numbers we answer with").
-use Prim.Native.Nat.{ℕ, zero, suc, _+_, _-_, min}
-use mathlib.Core.List.{List, [], _∷_}
-use mathlib.Core.Bool.{Bool, true, false, cond, not, _&&_, _||_}
-use lib.ListN.{length, getD}
+use Prim.Native.Nat.{ℕ, zero, suc, _-_, min}
+use mathlib.Core.List.{List}
+use mathlib.Core.Bool.{Bool, false, cond, not, _&&_, _||_}
 use lib.Dec.{ltb, leb, eqb}
 use Rattle.text.specs.Answer.{kindNumber}
 use Rattle.text.specs.Answer as piece
@@ -17,7 +16,8 @@ use Rattle.words.specs.Kind as word
 use Rattle.words.specs.Class.{classAt}
 use Rattle.records.specs.Records.{mostOf}
 use Rattle.rows.specs.Sections.{sections, entry, table, none}
-use Rattle.rows.specs.Rows.{paramCell, limitCell}
+use Rattle.rows.specs.Kinds.{nameKind, stringKind, wholeKind, choiceKind, newKind, pointsKind, alignmentKind, noughtKind, upperKind, pairsKind, numberKind, textKind}
+use Rattle.rows.specs.Numbered.{paramAt}
 use Rattle.grammar.specs.Move.{View, current, decimalSlots, state, items, idle, writes, Move, went, refused}
 use Rattle.grammar.specs.declared.names.Found.{Found}
 use Rattle.grammar.specs.declared.names.Found.the-variants as found
@@ -46,22 +46,22 @@ wrong n x k a e = cond (eqb k aNumber && not (hasForm x a e)) (refused 2 a) (ref
 
 -- the parameter that is next: its kind, its slot, the parameter after it, the section of its slot, its least and greatest number
 abbrev pub kindOf : State → ℕ
-kindOf s = paramCell (s .param) 0
+kindOf s = paramAt (s .param) .param .kind
 
 abbrev pub slotOf : State → ℕ
-slotOf s = paramCell (s .param) 1
+slotOf s = paramAt (s .param) .param .slot
 
 abbrev pub nextOf : State → ℕ
-nextOf s = paramCell (s .param) 2
+nextOf s = paramAt (s .param) .next
 
 abbrev pub secOf : State → ℕ
-secOf s = paramCell (s .param) 3
+secOf s = paramAt (s .param) .sec
 
 abbrev pub lowOf : State → ℕ
-lowOf s = limitCell (s .param) 0
+lowOf s = paramAt (s .param) .param .low
 
 abbrev pub highOf : State → ℕ
-highOf s = limitCell (s .param) 1
+highOf s = paramAt (s .param) .param .high
 
 -- the state after it
 abbrev pub after : State → State
@@ -81,8 +81,8 @@ signOf d = cond (d .negative) 1 0
 unfoldable pub takenWhole : State → ℕ → ℕ → ℕ → Move
 takenWhole s a e n =
     cond (ltb n (lowOf s)) (refused 2 a)
-    (cond (eqb (kindOf s) 7 && ltb 256 n) (refused 8 a)
-    (cond (eqb (kindOf s) 8 && not (eqb n 1 || eqb n 2 || eqb n 4 || eqb n 8)) (refused 2 a)
+    (cond (eqb (kindOf s) pointsKind && ltb 256 n) (refused 8 a)
+    (cond (eqb (kindOf s) alignmentKind && not (eqb n 1 || eqb n 2 || eqb n 4 || eqb n 8)) (refused 2 a)
     (went e (after s) (keeping s 1 n 0 0))))
 
 -- how many pairs follow, at most 65535; none: the block's keywords are next
@@ -121,9 +121,9 @@ takenEntry v s a e d =
 -- an entry's number; "a and d must be 0", else 9; "lower limit above upper" is 5
 unfoldable pub takenDecimal : View → State → ℕ → ℕ → Scaled → Move
 takenDecimal v s a e d =
-    cond (eqb (kindOf s) 12) (takenEntry v s a e d)
-    (cond (eqb (kindOf s) 9 && not (eqb (d .whole) 0)) (refused 9 a)
-    (cond (eqb (kindOf s) 10 && not (atMost (decimalIn v (secOf s) (slotOf s - 3)) d)) (refused 5 a)
+    cond (eqb (kindOf s) numberKind) (takenEntry v s a e d)
+    (cond (eqb (kindOf s) noughtKind && not (eqb (d .whole) 0)) (refused 9 a)
+    (cond (eqb (kindOf s) upperKind && not (atMost (decimalIn v (secOf s) (slotOf s - 3)) d)) (refused 5 a)
     (went e (after s) (keeping s 3 (signOf d) (d .whole) (d .tens)))))
 
 -- what is made of a number that was read; "a number outside its form" is 2
@@ -141,11 +141,11 @@ ofWhole x s a e = ofNumber a (inRun (wholeOf (highOf s)) x a e) (takenWhole s a 
 abbrev pub ofDecimal : List ℕ → View → State → ℕ → ℕ → Move
 ofDecimal x v s a e = ofNumber a (inRun decimalOf x a e) (takenDecimal v s a e)
 
--- by the parameter's kind: 11 is how many pairs follow, 3, 7 and 8 are whole numbers, and the others (4, 9, 10 and 12) decimals
+-- by the parameter's kind: how many pairs follow, a whole number, and any other is a decimal
 unfoldable pub takenNumber : List ℕ → View → State → ℕ → ℕ → Move
 takenNumber x v s a e =
-    cond (eqb (kindOf s) 11) (ofPairs x s a e)
-    (cond (eqb (kindOf s) 3 || eqb (kindOf s) 7 || eqb (kindOf s) 8) (ofWhole x s a e)
+    cond (eqb (kindOf s) pairsKind) (ofPairs x s a e)
+    (cond (eqb (kindOf s) wholeKind || eqb (kindOf s) pointsKind || eqb (kindOf s) alignmentKind) (ofWhole x s a e)
     (ofDecimal x v s a e))
 
 -- ---- names
@@ -180,11 +180,11 @@ ofChoice s a e (word.skippedPlain c) = refused 5 a
 ofChoice s a e word.listedOnly = refused 9 a
 ofChoice s a e word.unlisted = refused 4 a
 
--- a name by the parameter's kind: 6 is a new record's, 5 a choice, and any other is kept
+-- a name by the parameter's kind: a new record's, a choice, and any other is kept
 unfoldable pub takenName : List ℕ → View → State → ℕ → ℕ → Move
 takenName x v s a e =
-    cond (eqb (kindOf s) 6) (takenNew x v s a e)
-    (cond (eqb (kindOf s) 5) (ofChoice s a e (classAt x a e))
+    cond (eqb (kindOf s) newKind) (takenNew x v s a e)
+    (cond (eqb (kindOf s) choiceKind) (ofChoice s a e (classAt x a e))
     (went e (after s) (keeping s 2 a e 0)))
 
 -- ---- texts
@@ -193,20 +193,20 @@ takenName x v s a e =
 abbrev pub afterText : State → State
 afterText s = cond (ltb 1 (s .left)) (state items (s .block) (s .param - 1) (s .left - 1)) (state items (s .block) 0 0)
 
--- a pair's text (kind 13) goes to its entry, any other to its slot
+-- a pair's text goes to its entry, any other to its slot
 unfoldable pub takenText : State → ℕ → ℕ → Move
 takenText s a e =
-    cond (eqb (kindOf s) 13) (went e (afterText s) (writes entry 2 2 a e 0))
+    cond (eqb (kindOf s) textKind) (went e (afterText s) (writes entry 2 2 a e 0))
     (went e (after s) (keeping s 2 a e 0))
 
 -- ---- any piece: "parameter .. of the wrong kind" is 5
 
 -- which kinds want a string, a name; the others want a number
 abbrev pub wantsText : State → Bool
-wantsText s = eqb (kindOf s) 2 || eqb (kindOf s) 13
+wantsText s = eqb (kindOf s) stringKind || eqb (kindOf s) textKind
 
 abbrev pub wantsName : State → Bool
-wantsName s = eqb (kindOf s) 1 || eqb (kindOf s) 5 || eqb (kindOf s) 6
+wantsName s = eqb (kindOf s) nameKind || eqb (kindOf s) choiceKind || eqb (kindOf s) newKind
 
 unfoldable pub taken : List ℕ → View → State → ℕ → ℕ → ℕ → Move
 taken x v s k a e =

@@ -34,7 +34,7 @@ use words::codes::PROJECT;
 ghost use mathlib.Core.Path.{_≡_};
 ghost use lib.ListN.{length};
 ghost use Rattle.words.specs.Class.{classAt};
-ghost use Rattle.rows.specs.Rows.{needCells};
+ghost use Rattle.rows.specs.Rows.{needed};
 ghost use Rattle.grammar.specs.Move.{viewIn, moved};
 ghost use Rattle.grammar.specs.Keyword.{rowOf, mayStand, axesOf, limitOf, isOften, oneMore, counting, stands, plainRow, homeOf, bareWord, levelsIn, skips, opens, begunWord, isMet, allMet, ends, holderOf, closes, endedWord, item, afterBegin, afterEnd};
 
@@ -257,7 +257,7 @@ fn is_met(t: &[u64], b: u8, i: u8) -> bool
 
 // Whether all needs of the block b are met.
 fn all_met(t: &[u64], b: u8) -> bool
-    ensures { λ r. ⌜ r ≡ allMet (length needCells) (viewIn (now (t .entry))) b 0 ⌝ }
+    ensures { λ r. ⌜ r ≡ allMet (length needed) (viewIn (now (t .entry))) b 0 ⌝ }
 {
     let mut i: u8 = 0;
     while i < NEED_COUNT {

@@ -10,7 +10,8 @@ use lib.ListN.{length}
 use Rattle.records.specs.Records.{slot}
 use Rattle.records.proofs.Encode.{Good}
 use Rattle.rows.specs.Sections.{sections}
-use Rattle.rows.specs.Rows.{rows, paramCells}
+use Rattle.rows.specs.Rows.{rows}
+use Rattle.rows.specs.Numbered.{allParams}
 use Rattle.grammar.specs.Move.{view, applied, went}
 use Rattle.grammar.specs.Parameter.{kindOf, secOf}
 use Rattle.grammar.specs.Read.{move, start}
@@ -28,8 +29,8 @@ use Rattle.facts.proofs.Keeps.{named-text}
 abbrev newTest : ℕ → ℕ → ℕ → ℕ → Bool
 newTest w s n c = not (eqb w 6) || isNamed c
 
-news : every (ofParam newTest) paramCells ≡ true
-unfolding paramCells rows
+news : every (ofParam newTest) allParams ≡ true
+unfolding allParams rows
 news = refl
 
 pub new-named : (s : State) → kindOf s ≡ 6 → isNamed (secOf s) ≡ true

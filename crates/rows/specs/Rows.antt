@@ -1,9 +1,8 @@
 -- The grammar as data, a row to a line: document 000's parameters in their order, for what document 01 takes and skips.
-use Prim.Native.Nat.{ℕ, suc, _+_}
-use mathlib.Core.List.{List, [], _∷_, _++_}
+use Prim.Native.Nat.{ℕ}
+use mathlib.Core.List.{List, [], _∷_}
 use mathlib.Core.Bool.{cond}
 use lib.Dec.{eqb}
-use lib.ListN.{length, getD}
 use Rattle.rows.specs.Codes.{FILE, ANY, PROJECT, MODULE, MOD-COMMON, COMPU-METHOD, COMPU-VTAB, RECORD-LAYOUT, AXIS-PTS, CHARACTERISTIC, AXIS-DESCR, MEASUREMENT, COEFFS-LINEAR, COEFFS, COMPU-TAB-REF, AXIS-PTS-REF, NUMBER, ECU-ADDRESS, FNC-VALUES, AXIS-PTS-X, AXIS-PTS-Y, NO-AXIS-PTS-X, NO-AXIS-PTS-Y, BYTE-ORDER, ALIGNMENT-BYTE, ALIGNMENT-WORD, ALIGNMENT-LONG, BIT-MASK, READ-ONLY, DEFAULT-VALUE, FORMAT, DISPLAY-IDENTIFIER, PHYS-UNIT, ASAP2-VERSION, A2ML-VERSION, UBYTE, SLONG, MSB-FIRST, MSB-LAST, ROW-DIR, COLUMN-DIR, INDEX-INCR, INDEX-DECR, DIRECT, VALUE, VAL-BLK, CURVE, MAP, IDENTICAL, LINEAR, RAT-FUNC, TAB-VERB, STD-AXIS, COM-AXIS}
 use Rattle.rows.specs.Sections.{file, method, table, entry, layout, object, axis, none}
 use Rattle.rows.specs.Row.{Param, name, string, whole, decimal, choice, new, points, alignment, nought, upper, pairs, number, text, Row, block, single, keyword, under, passed, refusing, Need, need}
@@ -85,69 +84,6 @@ needed =
     ∷ record { block = MEASUREMENT; sec = object; when = 0; low = 0; high = 0; slot = 27; least = 1 }
     ∷ []
 
--- ---- the same as rows of numbers. Parameters are numbered from 1 through all rows; 0 is none
-
--- the number of a row's first parameter
-abbrev pub startOf : ℕ → List Param → ℕ
-startOf n [] = 0
-startOf n (p ∷ ps) = n
-
--- parent, word, opens, section, once, when, low, high, adds, first parameter
-abbrev pub rowsFrom : ℕ → List Row → List (List ℕ)
-rowsFrom n [] = []
-rowsFrom n (r ∷ rs) =
-    (r .parent ∷ r .word ∷ r .opens ∷ r .sec ∷ r .once ∷ r .when ∷ r .low ∷ r .high ∷ r .adds ∷ startOf n (r .params) ∷ [])
-    ∷ rowsFrom (n + length (r .params)) rs
-
--- kind, slot, the number of the next parameter, the section of the record that it goes to
-abbrev pub paramsFrom : ℕ → ℕ → List Param → List (List ℕ)
-paramsFrom n j [] = []
-paramsFrom n j (p ∷ []) = (p .kind ∷ p .slot ∷ 0 ∷ j ∷ []) ∷ []
-paramsFrom n j (p ∷ (q ∷ ps)) = (p .kind ∷ p .slot ∷ suc n ∷ j ∷ []) ∷ paramsFrom (suc n) j (q ∷ ps)
-
--- the least and the greatest number or choice
-abbrev pub limitsFrom : List Param → List (List ℕ)
-limitsFrom [] = []
-limitsFrom (p ∷ ps) = (p .low ∷ p .high ∷ []) ∷ limitsFrom ps
-
 -- a block that adds a record as it opens keeps its parameters there
 abbrev pub keeps : Row → ℕ
 keeps r = cond (eqb (r .adds) none) (r .sec) (r .adds)
-
-abbrev pub allParams : ℕ → List Row → List (List ℕ)
-allParams n [] = []
-allParams n (r ∷ rs) = paramsFrom n (keeps r) (r .params) ++ allParams (n + length (r .params)) rs
-
-unfoldable pub rowCells : List (List ℕ)
-rowCells = rowsFrom 1 rows
-
-unfoldable pub paramCells : List (List ℕ)
-paramCells = (0 ∷ 0 ∷ 0 ∷ 0 ∷ []) ∷ allParams 1 rows
-
-abbrev pub allLimits : List Row → List (List ℕ)
-allLimits [] = []
-allLimits (r ∷ rs) = limitsFrom (r .params) ++ allLimits rs
-
-unfoldable pub limitCells : List (List ℕ)
-limitCells = (0 ∷ 0 ∷ []) ∷ allLimits rows
-
--- block, section, when, low, high, slot, least
-abbrev pub needsFrom : List Need → List (List ℕ)
-needsFrom [] = []
-needsFrom (n ∷ ns) = (n .block ∷ n .sec ∷ n .when ∷ n .low ∷ n .high ∷ n .slot ∷ n .least ∷ []) ∷ needsFrom ns
-
-unfoldable pub needCells : List (List ℕ)
-needCells = needsFrom needed
-
--- number f of row i, of parameter p, of its limits, of need i
-unfoldable pub rowCell : ℕ → ℕ → ℕ
-rowCell i f = getD (getD rowCells i []) f 0
-
-unfoldable pub paramCell : ℕ → ℕ → ℕ
-paramCell p f = getD (getD paramCells p []) f 0
-
-unfoldable pub limitCell : ℕ → ℕ → ℕ
-limitCell p f = getD (getD limitCells p []) f 0
-
-unfoldable pub needCell : ℕ → ℕ → ℕ
-needCell i f = getD (getD needCells i []) f 0

@@ -1,10 +1,12 @@
 // The grammar's rows as numbers: specs/Rows.antt has them in words, and the proofs compute that they are the same.
 // Each table is a match and no array: an array that is indexed would be copied by every call.
+
 ghost use mathlib.Core.Path.{_≡_};
 ghost use mathlib.Core.Bool.{_&&_};
 ghost use lib.Dec.{eqb};
 ghost use lib.ListN.{getD, take, replicate};
-ghost use Rattle.rows.specs.Rows.{rowCells, paramCells, limitCells, needCells, rowCell, paramCell, limitCell, needCell};
+ghost use Rattle.rows.specs.Numbered.{rowAt};
+ghost use Rattle.rows.specs.Cells.{rowCells, paramCells, limitCells, needCells, rowCell, paramCell, limitCell, needCell};
 
 // How many rows and needs there are.
 pub const ROW_COUNT: u8 = 45;
@@ -411,7 +413,7 @@ pub fn need_cell(i: u8, f: u8) -> u8
 
 // Whether row i is that of the word w in the block b.
 pub fn is_row(i: u8, b: u8, w: u8) -> bool
-    ensures { λ r. ⌜ r ≡ (eqb (rowCell i 0) b && eqb (rowCell i 1) w) ⌝ }
+    ensures { λ r. ⌜ r ≡ (eqb (rowAt i .parent) b && eqb (rowAt i .word) w) ⌝ }
 {
     let cells = head(i);
     (cells[0] == b) & (cells[1] == w)

@@ -15,14 +15,15 @@ use Rattle.records.specs.Records.{count, slot, add}
 use Rattle.rows.specs.Codes.{CURVE, MAP}
 use Rattle.rows.specs.Sections.{sections, none, table, entry, axis, object}
 use Rattle.rows.specs.Row.{Row, Need}
-use Rattle.rows.specs.Rows.{needed, needCells}
+use Rattle.rows.specs.Rows.{needed}
+use Rattle.rows.specs.Numbered.{needAt}
 use Rattle.grammar.specs.Move.{view, idle, writes, puts, applied}
 use Rattle.grammar.specs.Parameter.{slotOf, secOf, keeping, newRecord, signOf, findFrom, find, hasEntry, twice}
 use Rattle.grammar.specs.Keyword.{isOften, mayStand, oneMore, counting, isMet, allMet}
 use Rattle.grammar.specs.declared.state.State.{State}
 use Rattle.grammar.specs.declared.state.Act.{Act}
 use Rattle.tree.specs.Tree.{Records, current, written, kept, appended, Within, limit, Free, counted, Met, Among, Fresh, Apart}
-use Rattle.tree.proofs.Tables.{IsRow, IsNeed, Needs, all-needs, needs-count}
+use Rattle.tree.proofs.Tables.{IsRow, Needs, all-needs}
 
 -- no record more where there is no section
 pub add-none : (d : Records) → add sections d none ≡ d
@@ -71,10 +72,10 @@ true-within d j n low high h = by-case (or-case (eqb n 0) (leb low (current d j 
 
 module _ (d : Records) (i : ℕ) (r : Row) (q : IsRow i r) where
   pub may-stand : Free d r → mayStand (view d) i ≡ true
-  may-stand f = rw (q .sec, q .when, q .low, q .high) (within-true d (r .sec) (r .when) (r .low) (r .high) (f .used))
+  may-stand f = rw (q .same) (within-true d (r .sec) (r .when) (r .low) (r .high) (f .used))
 
   pub not-often : Free d r → isOften (view d) i ≡ false
-  not-often f = rw (q .sec, q .once, q .adds) (by-case (f .seldom)) where
+  not-often f = rw (q .same) (by-case (f .seldom)) where
     by-case : (r .once ≡ 0) ⊎ (current d (r .sec) (r .once) < limit d r) → (not (eqb (r .once) 0) && leb (limit d r) (current d (r .sec) (r .once))) ≡ false
     by-case (inl e) = rw (eq-eqb (r .once) 0 e)
     by-case (inr l) = rw (lt-leb (limit d r) (current d (r .sec) (r .once)) l) (right (not (eqb (r .once) 0))) where
@@ -84,8 +85,8 @@ module _ (d : Records) (i : ℕ) (r : Row) (q : IsRow i r) where
 
   pub is-free : mayStand (view d) i ≡ true → isOften (view d) i ≡ false → Free d r
   is-free h g = record {
-    used = true-within d (r .sec) (r .when) (r .low) (r .high) (rw (q .sec, q .when, q .low, q .high) at h);
-    seldom = by-once (eqb (r .once) 0) refl (rw (q .sec, q .once, q .adds) at g);
+    used = true-within d (r .sec) (r .when) (r .low) (r .high) (rw (q .same) at h);
+    seldom = by-once (eqb (r .once) 0) refl (rw (q .same) at g);
   } where
     by-once : (t : Bool) → eqb (r .once) 0 ≡ t → (not t && leb (limit d r) (current d (r .sec) (r .once))) ≡ false → (r .once ≡ 0) ⊎ (current d (r .sec) (r .once) < limit d r)
     by-once true e l = inl (eqb-true (r .once) 0 e)
@@ -103,7 +104,7 @@ module _ (d : Records) (i : ℕ) (r : Row) (q : IsRow i r) where
 
   pub applied-counting : Free d r → applied (counting (view d) i) d ≡ counted r d
   unfolding counted kept written applied
-  applied-counting f = rw (q .sec, q .once, q .adds) (by-once (eqb (r .once) 0) refl (f .seldom)) where
+  applied-counting f = rw (q .same) (by-once (eqb (r .once) 0) refl (f .seldom)) where
     act : Act
     act = record { adds = r .adds; sec = r .sec; slot = r .once; many = 1; a = oneMore (current d (r .sec) (r .once)); b = 0; c = 0; d = 0 }
 
@@ -129,8 +130,8 @@ metTest d b n =
     || not (eqb (n .when) 0 || leb (n .low) (current d (n .sec) (n .when)) && leb (current d (n .sec) (n .when)) (n .high))
     || leb (n .least) (current d (n .sec) (n .slot))
 
-is-met : (d : Records) (b i : ℕ) (n : Need) → IsNeed i n → isMet (view d) b i ≡ metTest d b n
-is-met d b i n q = rw (q .block, q .sec, q .when, q .low, q .high, q .slot, q .least)
+is-met : (d : Records) (b i : ℕ) (n : Need) → needAt i ≡ n → isMet (view d) b i ≡ metTest d b n
+is-met d b i n q = rw q
 
 met-true : (d : Records) (b : ℕ) (n : Need) → MetOne d b n → metTest d b n ≡ true
 met-true d b n h = by-case (eqb (n .block) b) _ refl refl where
@@ -154,11 +155,11 @@ met-needs d b [] i q h n m = absurd m
 met-needs d b (s ∷ ns) i q h n (inl e) = rw e (true-met d b s (sym (is-met d b i s (q .0)) ∙ and-left (isMet (view d) b i) (allMet (length ns) (view d) b (suc i)) h))
 met-needs d b (s ∷ ns) i q h n (inr m) = met-needs d b ns (suc i) (q .1) (and-right (isMet (view d) b i) (allMet (length ns) (view d) b (suc i)) h) n m
 
-pub all-met : (d : Records) (b : ℕ) → Met d b → allMet (length needCells) (view d) b 0 ≡ true
-all-met d b h = rw needs-count (needs-met d b needed 0 all-needs h)
+pub all-met : (d : Records) (b : ℕ) → Met d b → allMet (length needed) (view d) b 0 ≡ true
+all-met d b h = needs-met d b needed 0 all-needs h
 
-pub met-all : (d : Records) (b : ℕ) → allMet (length needCells) (view d) b 0 ≡ true → Met d b
-met-all d b h = met-needs d b needed 0 all-needs (rw needs-count at h)
+pub met-all : (d : Records) (b : ℕ) → allMet (length needed) (view d) b 0 ≡ true → Met d b
+met-all d b h = met-needs d b needed 0 all-needs h
 
 -- ---- a name that no record has, a number that no entry has
 

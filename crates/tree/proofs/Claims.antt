@@ -13,7 +13,7 @@ use Rattle.number.specs.Form.{hasForm}
 use Rattle.rows.specs.Codes.{FILE}
 use Rattle.rows.specs.Sections.{entry}
 use Rattle.rows.specs.Row.{Param, number as entryNumber, text as entryText}
-use Rattle.rows.specs.Rows.{paramCell}
+use Rattle.rows.specs.Numbered.{paramAt}
 use Rattle.grammar.specs.Move.{view, state, begun, ended, finished, applied, Move, went, over, refused}
 use Rattle.grammar.specs.Parameter.{aNumber, wrong}
 use Rattle.grammar.specs.Read.{onPiece, onToken, finishing, move, following, readFrom}
@@ -39,10 +39,10 @@ Telling x d′ b n k d = (a : ℕ) × (e : ℕ) × Comes x k piece.string a e ×
 pub record Claims (x : List ℕ) (d′ : Records) (f : ℕ) : Type 0 where
   pub rests : (b k : ℕ) (d : Records) → readFrom f x k (resting b) d ≡ given d′ → Rest x d′ b k d
   pub wants : (b j : ℕ) (qs : List Param) (p k : ℕ) (d : Records) → Chain p j qs → Forms qs → readFrom f x k (wanting b p 0) d ≡ given d′ → Filling x d′ b j qs k d
-  pub numbers : (b j t p : ℕ) → IsParam p j entryNumber → IsParam (paramCell p 2) j (entryText t) → (n k : ℕ) (d : Records)
+  pub numbers : (b j t p : ℕ) → IsParam p j entryNumber → IsParam (paramAt p .next) j (entryText t) → (n k : ℕ) (d : Records)
       → readFrom f x k (wanting b p (suc n)) d ≡ given d′ → Pairing x d′ b (suc n) k d
-  pub texts : (b j t p : ℕ) → IsParam p j entryNumber → IsParam (paramCell p 2) j (entryText t) → (n k : ℕ) (d : Records)
-      → readFrom f x k (wanting b (paramCell p 2) (suc n)) d ≡ given d′ → Telling x d′ b n k d
+  pub texts : (b j t p : ℕ) → IsParam p j entryNumber → IsParam (paramAt p .next) j (entryText t) → (n k : ℕ) (d : Records)
+      → readFrom f x k (wanting b (paramAt p .next) (suc n)) d ≡ given d′ → Telling x d′ b n k d
   pub begins : (b k : ℕ) (d : Records) → readFrom f x k (state begun b 0 0) d ≡ given d′ → (k₀ a : ℕ) → Comes x k₀ piece.begin a k → Rest x d′ b k₀ d
   pub ends : (b k : ℕ) (d : Records) → eqb b FILE ≡ false → Met d b → readFrom f x k (state ended b 0 0) d ≡ given d′ → (k₀ a : ℕ) → Comes x k₀ piece.end a k → Rest x d′ b k₀ d
   pub finishes : (k : ℕ) (d : Records) → readFrom f x k (state finished FILE 0 0) d ≡ given d′ → (p : ℕ) × (nextToken x k ≡ given (piece.finish p)) × (d ≡ d′)

@@ -15,16 +15,17 @@ use Rattle.text.proofs.SkipWithin.{Reaches, skip-block-within}
 use Rattle.words.specs.Kind as word
 use Rattle.words.specs.Class.{classAt}
 use Rattle.rows.specs.Codes.{FILE, ANY, PROJECT}
-use Rattle.rows.specs.Row.{Row}
-use Rattle.rows.specs.Rows.{rows, rowCell, keeps}
+use Rattle.rows.specs.Row.{plain, opening, Row}
+use Rattle.rows.specs.Rows.{rows, keeps}
+use Rattle.rows.specs.Numbered.{firstParam}
 use Rattle.grammar.specs.Move.{view, state, begun, ended, finished, idle, went}
 use Rattle.grammar.specs.Parameter.{aName, aBegin, anEnd}
 use Rattle.grammar.specs.Keyword.{counting, stands, plainRow, homeOf, levelsIn, skips, opens, ends, holderOf, item, afterBegin, afterEnd}
 use Rattle.grammar.specs.Read.{onPiece, readFrom, move, start, read}
 use Rattle.grammar.specs.declared.state.State.{State}
-use Rattle.tree.specs.Tree.{Records, Among, Comes, Free, counted, Stands, plain, Content, closed, holdsKeyword, passesKeyword, holdsBlock, skipsBlock, Versions, version, Description, description}
+use Rattle.tree.specs.Tree.{Records, Among, Comes, Free, counted, Stands, Content, closed, holdsKeyword, passesKeyword, holdsBlock, skipsBlock, Versions, version, Description, description}
 use Rattle.tree.specs.Tree as tree
-use Rattle.tree.proofs.Tables.{opening, IsRow, number-of}
+use Rattle.tree.proofs.Tables.{IsRow, number-of}
 use Rattle.tree.proofs.Words.{block-number, passed-number}
 use Rattle.tree.proofs.Shapes.{row-shaped}
 use Rattle.tree.proofs.Acts.{applied-idle, applied-counting, may-stand, not-often, all-met}
@@ -40,28 +41,28 @@ abbrev pub leaving : ℕ → State
 leaving b = cond (eqb b PROJECT) (state finished FILE 0 0) (resting (holderOf b))
 
 module _ (x : List ℕ) (d : Records) (i : ℕ) (r : Row) (q : IsRow i r) (f : Free d r) (b a e : ℕ) where
-  stands-on : (inner : ℕ) → stands (view d) i inner a e ≡ went e (wanting inner (rowCell i 9) 0) (counting (view d) i)
+  stands-on : (inner : ℕ) → stands (view d) i inner a e ≡ went e (wanting inner (firstParam i) 0) (counting (view d) i)
   unfolding stands
   stands-on inner = rw (may-stand d i r q f, not-often d i r q f)
 
-  plain-on : r .opens ≡ plain → plainRow (view d) (resting b) i a e ≡ went e (wanting b (rowCell i 9) 0) (counting (view d) i)
+  plain-on : r .opens ≡ plain → plainRow (view d) (resting b) i a e ≡ went e (wanting b (firstParam i) 0) (counting (view d) i)
   unfolding plainRow
-  plain-on o = rw (q .inside, q .opens ∙ o) (stands-on b)
+  plain-on o = rw (q .inside, ap (λ (t : Row). t .opens) (q .same) ∙ o) (stands-on b)
 
   -- a keyword's word
   taken-on : r .opens ≡ plain → r .parent ≡ b → classAt x a e ≡ word.takenPlain (r .word)
-      → onPiece x (view d) (resting b) aName a e ≡ went e (wanting b (rowCell i 9) 0) (counting (view d) i)
+      → onPiece x (view d) (resting b) aName a e ≡ went e (wanting b (firstParam i) 0) (counting (view d) i)
   unfolding onPiece item
   taken-on o h w = rw (w, ← h, q .found) (rw h (plain-on o))
 
   passed-on : r .opens ≡ plain → r .parent ≡ homeOf b → classAt x a e ≡ word.skippedPlain (r .word)
-      → onPiece x (view d) (resting b) aName a e ≡ went e (wanting b (rowCell i 9) 0) (counting (view d) i)
+      → onPiece x (view d) (resting b) aName a e ≡ went e (wanting b (firstParam i) 0) (counting (view d) i)
   unfolding onPiece item
   passed-on o h w = rw (w, ← h, q .found) (plain-on o)
 
   -- a block's word
   opens-on : r .parent ≡ b → classAt x a e ≡ word.takenBlock (r .word)
-      → onPiece x (view d) (state begun b 0 0) aName a e ≡ went e (wanting (r .word) (rowCell i 9) 0) (counting (view d) i)
+      → onPiece x (view d) (state begun b 0 0) aName a e ≡ went e (wanting (r .word) (firstParam i) 0) (counting (view d) i)
   unfolding onPiece afterBegin opens
   opens-on h w = rw (w, ← h, q .found, q .inside) (stands-on (r .word))
 
@@ -92,10 +93,10 @@ module _ (x : List ℕ) (d : Records) (b a e : ℕ) where
 
 module _ (x : List ℕ) (d : Records) (i : ℕ) (r : Row) (q : IsRow i r) (home b e k′ : ℕ) (d′ : Records) (s : Stands x home b r e d k′ d′) where
   -- once its word was read
-  fills : (k : ℕ) (m : State) → (a : ℕ) → Comes x k piece.name a e → onPiece x (view d) m aName a e ≡ went e (wanting b (rowCell i 9) 0) (counting (view d) i) → Leads x k m d k′ (resting b) d′
+  fills : (k : ℕ) (m : State) → (a : ℕ) → Comes x k piece.name a e → onPiece x (view d) m aName a e ≡ went e (wanting b (firstParam i) 0) (counting (view d) i) → Leads x k m d k′ (resting b) d′
   fills k m a t h =
-      past x k m d piece.name a e t (wanting b (rowCell i 9) 0) (counting (view d) i) h (counted r d) (applied-counting d i r q (s .free))
-      then parameters-lead x b (keeps r) (s .filled) (rowCell i 9) (q .chain)
+      past x k m d piece.name a e t (wanting b (firstParam i) 0) (counting (view d) i) h (counted r d) (applied-counting d i r q (s .free))
+      then parameters-lead x b (keeps r) (s .filled) (firstParam i) (q .chain)
 
 -- ---- the content of a block
 
@@ -165,7 +166,7 @@ is-accepted x d (description {k} {a} {e} {e₁} {k₁} {k₂} {p} {d₀} {d₁} 
       then past x k (resting FILE) d₀ piece.begin a e t (state begun FILE 0 0) idle (begin-on x d₀ FILE a e) d₀ (applied-idle d₀)
       then fills x d₀ (n .0) r (n .1) FILE PROJECT e₁ k₁ d₁ s e (state begun FILE 0 0) (w .0) (w .1)
       (opens-on x d₀ (n .0) r (n .1) (s .free) FILE (w .0) e₁ (s .placed) (w .2 ∙ ap word.takenBlock (sym z))
-      ∙ ap (λ (c : ℕ). went e₁ (wanting c (rowCell (n .0) 9) 0) (counting (view d₀) (n .0))) z)
+      ∙ ap (λ (c : ℕ). went e₁ (wanting c (firstParam (n .0)) 0) (counting (view d₀) (n .0))) z)
       then content-leads x c refl
 
   ended-run : Run x 0 (resting FILE) start k₂ (state finished FILE 0 0) d → readFrom (length x + 1) x 0 (resting FILE) start ≡ given d

@@ -21,7 +21,7 @@ use Rattle.words.specs.Class.{classAt}
 use Rattle.records.specs.Records.{mostOf, count}
 use Rattle.rows.specs.Sections.{sections, entry}
 use Rattle.rows.specs.Row.{Param, name, string, whole, decimal, choice, new, points, alignment, nought, upper, pairs, number as entryNumber, text as entryText}
-use Rattle.rows.specs.Rows.{paramCell}
+use Rattle.rows.specs.Numbered.{paramAt}
 use Rattle.grammar.specs.Move.{view, state, items, writes, applied, went}
 use Rattle.grammar.specs.Parameter.{aName, aString, aNumber, after, afterText, keeping, newRecord, signOf, decimalIn, twice, find, takenWhole, takenPairs, takenEntry, takenDecimal, takenNumber, takenNew, takenName, takenText, taken}
 use Rattle.grammar.specs.Read.{onPiece}
@@ -126,7 +126,7 @@ four-least m (inr (inr (inr (inr e)))) = absurd e
 
 -- one parameter
 one-leads : (x : List ℕ) (b j n p : ℕ) {q : Param} {k e : ℕ} {d d′ : Records} → IsParam p j q → Parameter x b j q k d e d′
-    → Leads x k (wanting b p n) d e (wanting b (paramCell p 2) n) d′
+    → Leads x k (wanting b p n) d e (wanting b (paramAt p .next) n) d′
 one-leads x b j n p i (takesName {s} {k} {a} {e} {d} t) =
     past x k (wanting b p n) d piece.name a e t (after (wanting b p n)) (keeping (wanting b p n) 2 a e 0)
     (on-taken x b j n d p (name s) i aName a e ∙ name-taken x b j n d p (name s) i a e refl) (kept j s (a ∷ e ∷ []) d) (keeps-at x b j n d p (name s) i 2 a e 0)
@@ -173,13 +173,13 @@ pub run-most : (h : ℕ) (x : List ℕ) (a e m : ℕ) → inRun (wholeOf h) x a 
 run-most h x a e m v = whole-most h (take (e - a) (drop a x)) m (run-given (wholeOf h) x a e m (sym v))
 
 -- the parameters of a pair: p the number's, p + 1 the text's
-module _ (x : List ℕ) (b j p : ℕ) (t : ℕ) (i : IsParam p j entryNumber) (i′ : IsParam (paramCell p 2) j (entryText t)) where
+module _ (x : List ℕ) (b j p : ℕ) (t : ℕ) (i : IsParam p j entryNumber) (i′ : IsParam (paramAt p .next) j (entryText t)) where
   -- where n pairs are to come
   abbrev pub coming : ℕ → State
   coming zero = wanting b 0 0
   coming (suc n) = wanting b p (suc n)
 
-  pub after-text : (n : ℕ) → afterText (wanting b (paramCell p 2) (suc n)) ≡ coming n
+  pub after-text : (n : ℕ) → afterText (wanting b (paramAt p .next) (suc n)) ≡ coming n
   after-text zero = refl
   after-text (suc n) =
       let e : suc (suc n) - 1 ≡ suc n = omega arith in
@@ -188,17 +188,17 @@ module _ (x : List ℕ) (b j p : ℕ) (t : ℕ) (i : IsParam p j entryNumber) (i
   pairs-lead : {n k k′ : ℕ} {d d′ : Records} → Pairs x n k d k′ d′ → Leads x k (coming n) d k′ (wanting b 0 0) d′
   pairs-lead (tree.Pairs.noMore {k} {d}) = stays x k (wanting b 0 0) d
   pairs-lead (pair {n} {k} {e} {a} {f} {k′} {m} {d} {d′} w z u l v rest) =
-      past x k (wanting b p (suc n)) d piece.number (w .0) e (w .1) (wanting b (paramCell p 2) (suc n)) (newRecord entry 2 (signOf m) (m .whole) 0 0)
+      past x k (wanting b p (suc n)) d piece.number (w .0) e (w .1) (wanting b (paramAt p .next) (suc n)) (newRecord entry 2 (signOf m) (m .whole) 0 0)
       (on-taken x b j (suc n) d p entryNumber i aNumber (w .0) e ∙ entry-taken x b j (suc n) d p entryNumber i (w .0) e m (w .2) refl z (apart-once d m u) l)
       (appended entry (signOf m ∷ m .whole ∷ []) d) (applied-new entry 2 (signOf m) (m .whole) 0 0 d)
-      then past x e (wanting b (paramCell p 2) (suc n)) (appended entry (signOf m ∷ m .whole ∷ []) d) piece.string a f v (coming n) (writes entry 2 2 a f 0)
-      (on-taken x b j (suc n) (appended entry (signOf m ∷ m .whole ∷ []) d) (paramCell p 2) (entryText t) i′ aString a f
-      ∙ text-taken x b j (suc n) (appended entry (signOf m ∷ m .whole ∷ []) d) (paramCell p 2) (entryText t) i′ a f refl ∙ ap (λ (s : State). went f s (writes entry 2 2 a f 0)) (after-text n))
+      then past x e (wanting b (paramAt p .next) (suc n)) (appended entry (signOf m ∷ m .whole ∷ []) d) piece.string a f v (coming n) (writes entry 2 2 a f 0)
+      (on-taken x b j (suc n) (appended entry (signOf m ∷ m .whole ∷ []) d) (paramAt p .next) (entryText t) i′ aString a f
+      ∙ text-taken x b j (suc n) (appended entry (signOf m ∷ m .whole ∷ []) d) (paramAt p .next) (entryText t) i′ a f refl ∙ ap (λ (s : State). went f s (writes entry 2 2 a f 0)) (after-text n))
       (written entry 2 (a ∷ f ∷ []) (appended entry (signOf m ∷ m .whole ∷ []) d)) (applied-writes entry 2 2 a f 0 (appended entry (signOf m ∷ m .whole ∷ []) d))
       then pairs-lead rest
 
   -- after how many there are
-  pub pairs-next : (o n : ℕ) (q : Param) → IsParam o j q → paramCell o 2 ≡ p → (e m : ℕ) → m ≤ 65535 → takenPairs (wanting b o n) e m ≡ went e (coming m) (keeping (wanting b o n) 1 m 0 0)
+  pub pairs-next : (o n : ℕ) (q : Param) → IsParam o j q → paramAt o .next ≡ p → (e m : ℕ) → m ≤ 65535 → takenPairs (wanting b o n) e m ≡ went e (coming m) (keeping (wanting b o n) 1 m 0 0)
   unfolding takenPairs
   pairs-next o n q c y e zero l = refl
   pairs-next o n q c y e (suc m) l =
@@ -210,10 +210,10 @@ module _ (x : List ℕ) (b j p : ℕ) (t : ℕ) (i : IsParam p j entryNumber) (i
 pub parameters-lead : (x : List ℕ) (b j : ℕ) {qs : List Param} {k k′ : ℕ} {d d′ : Records} → Parameters x b j qs k d k′ d′ → (p : ℕ) → Chain p j qs
     → Leads x k (wanting b p 0) d k′ (wanting b 0 0) d′
 parameters-lead x b j (tree.Parameters.noMore {k} {d}) p c = rw c (stays x k (wanting b 0 0) d)
-parameters-lead x b j (next one rest) p c = one-leads x b j 0 p (c .0) one then parameters-lead x b j rest (paramCell p 2) (c .1)
+parameters-lead x b j (next one rest) p c = one-leads x b j 0 p (c .0) one then parameters-lead x b j rest (paramAt p .next) (c .1)
 parameters-lead x b j (many {s} {t} {k} {n} {e} {k′} {d} w ps) p c =
-    past x k (wanting b p 0) d piece.number (w .0) e (w .1) (coming x b j (paramCell p 2) t (c .1 .0) (c .1 .1 .0) n) (keeping (wanting b p 0) 1 n 0 0)
+    past x k (wanting b p 0) d piece.number (w .0) e (w .1) (coming x b j (paramAt p .next) t (c .1 .0) (c .1 .1 .0) n) (keeping (wanting b p 0) 1 n 0 0)
     (on-taken x b j 0 d p (pairs s) (c .0) aNumber (w .0) e ∙ pairs-taken x b j 0 d p (pairs s) (c .0) (w .0) e refl n (w .2)
-    ∙ pairs-next x b j (paramCell p 2) t (c .1 .0) (c .1 .1 .0) p 0 (pairs s) (c .0) refl e n (run-most 65535 x (w .0) e n (w .2)))
+    ∙ pairs-next x b j (paramAt p .next) t (c .1 .0) (c .1 .1 .0) p 0 (pairs s) (c .0) refl e n (run-most 65535 x (w .0) e n (w .2)))
     (kept j s (n ∷ []) d) (keeps-at x b j 0 d p (pairs s) (c .0) 1 n 0 0)
-    then pairs-lead x b j (paramCell p 2) t (c .1 .0) (c .1 .1 .0) ps
+    then pairs-lead x b j (paramAt p .next) t (c .1 .0) (c .1 .1 .0) ps

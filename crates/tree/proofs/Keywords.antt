@@ -14,15 +14,16 @@ use Rattle.text.proofs.Within.{by-test, and-left, and-right}
 use Rattle.words.specs.Kind as word
 use Rattle.words.specs.Class.{classAt}
 use Rattle.rows.specs.Codes.{FILE, ANY, PROJECT}
-use Rattle.rows.specs.Row.{Row, outside}
-use Rattle.rows.specs.Rows.{rows, rowCell, needCells, keeps}
+use Rattle.rows.specs.Row.{opening, Row, outside}
+use Rattle.rows.specs.Rows.{rows, needed, keeps}
+use Rattle.rows.specs.Numbered.{rowAt, firstParam}
 use Rattle.grammar.specs.Move.{view, state, begun, ended, finished, applied, Move, refused}
 use Rattle.grammar.specs.Parameter.{aName, aBegin, anEnd}
 use Rattle.grammar.specs.Keyword.{rowOf, isRow, mayStand, isOften, counting, stands, plainRow, homeOf, bareWord, levelsIn, ofSkip, skips, opens, begunWord, allMet, ends, holderOf, closes, endedWord, item, afterBegin, afterEnd}
 use Rattle.grammar.specs.Read.{onPiece, readFrom}
 use Rattle.tree.specs.Tree.{Records, Among, Comes, Word, Free, counted, Stands, Met, Content, closed, holdsKeyword, passesKeyword, holdsBlock, skipsBlock, Versions, version}
 use Rattle.tree.specs.Tree as tree
-use Rattle.tree.proofs.Tables.{opening, IsRow, row-at}
+use Rattle.tree.proofs.Tables.{IsRow, row-at}
 use Rattle.tree.proofs.Shapes.{Shaped, row-shaped, row-found}
 use Rattle.tree.proofs.Words.{block-number, plain-number}
 use Rattle.tree.proofs.Acts.{applied-idle, applied-counting, is-free, met-all}
@@ -44,7 +45,7 @@ row-of : (b c : ℕ) → isRow (rowOf b c) ≡ true → InRow b c (rowOf b c)
 row-of b c h =
     let t = row-at (rowOf b c) h in
     let u = row-found b c h in
-    record { row = t .0; listed = t .1; is = t .2; shape = row-shaped (t .0) (t .1); placed = sym (t .2 .parent) ∙ u .0; named = sym (t .2 .word) ∙ u .1 }
+    record { row = t .0; listed = t .1; is = t .2; shape = row-shaped (t .0) (t .1); placed = rw (t .2 .same) at (u .0); named = rw (t .2 .same) at (u .1) }
 
 module _ (x : List ℕ) (d′ : Records) (f : ℕ) (ih : Claims x d′ f) (d : Records) where
   abbrev Gv : Type 0 → Move → Type 0
@@ -62,10 +63,10 @@ module _ (x : List ℕ) (d′ : Records) (f : ℕ) (ih : Claims x d′ f) (d : R
           Gv-G : Move → Type 0
           Gv-G = Gv G
 
-          filled : Free d (o .row) → readFrom f x e (wanting b (rowCell i 9) 0) (applied (counting (view d) i) d) ≡ given d′ → G
+          filled : Free d (o .row) → readFrom f x e (wanting b (firstParam i) 0) (applied (counting (view d) i) d) ≡ given d′ → G
           filled free h =
-              let w = ih .wants b (keeps (o .row)) (o .row .params) (rowCell i 9) e (counted (o .row) d) (o .is .chain) (o .shape .filled)
-              (subst (λ (c : Records). readFrom f x e (wanting b (rowCell i 9) 0) c ≡ given d′) (applied-counting d i (o .row) (o .is) free) h) in
+              let w = ih .wants b (keeps (o .row)) (o .row .params) (firstParam i) e (counted (o .row) d) (o .is .chain) (o .shape .filled)
+              (subst (λ (c : Records). readFrom f x e (wanting b (firstParam i) 0) c ≡ given d′) (applied-counting d i (o .row) (o .is) free) h) in
               go (w .0) (w .1) (record { listed = o .listed; placed = o .placed; free = free; filled = w .2 }) (w .3)
 
   -- ---- a bare word
@@ -76,9 +77,9 @@ module _ (x : List ℕ) (d′ : Records) (f : ℕ) (ih : Claims x d′ f) (d : R
     unfolding plainRow
     plain-gives home c go =
         by-test (Gives x d′ f d (Rest x d′ b k d)) (not (isRow (rowOf home c))) (λ t. tt) λ t.
-        by-test (Gives x d′ f d (Rest x d′ b k d)) (eqb (rowCell (rowOf home c) 2) outside) (λ u. tt) λ u.
+        by-test (Gives x d′ f d (Rest x d′ b k d)) (eqb (rowAt (rowOf home c) .opens) outside) (λ u. tt) λ u.
         let o : InRow home c (rowOf home c) = row-of home c (not-false (isRow (rowOf home c)) t) in
-        stands-gives home b c (rowOf home c) o a e (Rest x d′ b k d) (go o (subst (λ (n : ℕ). eqb n outside ≡ false) (o .is .opens) u))
+        stands-gives home b c (rowOf home c) o a e (Rest x d′ b k d) (go o (subst (λ (r : Row). eqb (r .opens) outside ≡ false) (o .is .same) u))
 
     module _ (c : ℕ) where
       -- a keyword of the block
@@ -237,7 +238,7 @@ module _ (x : List ℕ) (d′ : Records) (f : ℕ) (ih : Claims x d′ f) (d : R
     ending : (a e : ℕ) → Comes x k piece.end a e → Gives x d′ f d (Rest x d′ b k d) (ends (view d) (resting b) a e)
     ending a e q =
         by-test (Gives x d′ f d (Rest x d′ b k d)) (eqb b FILE) (λ t. tt) λ t.
-        by-test (Gives x d′ f d (Rest x d′ b k d)) (allMet (length needCells) (view d) b 0)
+        by-test (Gives x d′ f d (Rest x d′ b k d)) (allMet (length needed) (view d) b 0)
         (λ u h. ih .ends b e d t (met-all d b u) (subst (λ (c : Records). readFrom f x e (state ended b 0 0) c ≡ given d′) (applied-idle d) h) k a q) (λ u. tt)
 
     one : (t : piece.Kind) (a e : ℕ) → Comes x k t a e → Gives x d′ f d (Rest x d′ b k d) (onPiece x (view d) (resting b) (kindNumber t) a e)

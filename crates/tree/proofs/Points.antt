@@ -18,7 +18,7 @@ use Rattle.records.specs.Records.{widthOf, mostOf, recordsOf, count, slot, add,
 use Rattle.records.proofs.Encode.{Good, good-add, none-good, fit-few}
 use Rattle.rows.specs.Codes.{FILE, ANY, PROJECT, AXIS-PTS, CHARACTERISTIC, AXIS-DESCR, VAL-BLK, CURVE, MAP, COM-AXIS}
 use Rattle.rows.specs.Sections.{sections, file, none, object, axis}
-use Rattle.rows.specs.Row.{Param, whole, Row, need}
+use Rattle.rows.specs.Row.{Param, whole, opening, Row, need}
 use Rattle.rows.specs.Rows.{rows, needed, keeps}
 use Rattle.grammar.specs.Move.{puts, applied}
 use Rattle.grammar.specs.Parameter.{newRecord}
@@ -31,7 +31,7 @@ use Rattle.facts.proofs.Slots.{clear-slot, other-slot, written-slot, same-count
 use Rattle.tree.specs.Tree.{Records, Among, current, written, kept, limit, counted, Stands, Met, Content, closed, holdsKeyword, passesKeyword, holdsBlock, skipsBlock, Versions, version, Description, description}
 use Rattle.tree.specs.Tree as tree
 use Rattle.tree.specs.Points.{Pointed}
-use Rattle.tree.proofs.Tables.{opening, number-of}
+use Rattle.tree.proofs.Tables.{number-of}
 use Rattle.tree.proofs.Words.{block-number, passed-number}
 use Rattle.tree.proofs.Shapes.{row-shaped}
 use Rattle.tree.proofs.Acts.{add-none}

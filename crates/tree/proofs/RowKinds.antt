@@ -10,11 +10,10 @@ use lib.ListN.{getD}
 use Rattle.text.proofs.Within.{and-left, and-right, or-case}
 use Rattle.rows.specs.Codes.{FILE, ANY, AXIS-PTS, CHARACTERISTIC, AXIS-DESCR}
 use Rattle.rows.specs.Sections.{none, object, axis}
-use Rattle.rows.specs.Row.{Param, whole, Row}
+use Rattle.rows.specs.Row.{Param, whole, opening, Row}
 use Rattle.rows.specs.Rows.{rows, keeps}
 use Rattle.facts.proofs.Moves.{wideOf}
 use Rattle.tree.specs.Tree.{Among}
-use Rattle.tree.proofs.Tables.{opening}
 use Rattle.tree.proofs.Leaves.{untouched, leastOf, arePlain, isNamed, holds, rest}
 
 abbrev pub allTrue : List Bool → Bool

@@ -10,12 +10,12 @@ use lib.Dec.{leb, eqb}
 use lib.ListN.{length}
 use Rattle.text.proofs.Within.{by-test, and-left, and-right, or-case}
 use Rattle.rows.specs.Codes.{FILE, PROJECT}
-use Rattle.rows.specs.Row.{Param, name, string, whole, decimal, choice, new, points, alignment, nought, upper, pairs, number as entryNumber, text as entryText, Row, outside}
-use Rattle.rows.specs.Rows.{rows, rowCells, rowCell}
+use Rattle.rows.specs.Row.{Param, name, string, whole, decimal, choice, new, points, alignment, nought, upper, pairs, number as entryNumber, text as entryText, plain, opening, Row, outside}
+use Rattle.rows.specs.Rows.{rows}
+use Rattle.rows.specs.Numbered.{rowAt}
 use Rattle.grammar.specs.Keyword.{rowFrom, rowOf, isRow}
 use Rattle.facts.proofs.Tests.{implied}
-use Rattle.tree.specs.Tree.{Among, plain}
-use Rattle.tree.proofs.Tables.{opening}
+use Rattle.tree.specs.Tree.{Among}
 
 -- a parameter of one of the forms
 pub data Formed : Param → Type 0 where
@@ -156,14 +156,14 @@ row-shaped = shaped-in rows all-shaped
 
 -- ---- the row that a search finds
 
-found-from : (b w f i : ℕ) → rowFrom f i b w < i + f → (rowCell (rowFrom f i b w) 0 ≡ b) × (rowCell (rowFrom f i b w) 1 ≡ w)
+found-from : (b w f i : ℕ) → rowFrom f i b w < i + f → (rowAt (rowFrom f i b w) .parent ≡ b) × (rowAt (rowFrom f i b w) .word ≡ w)
 unfolding rowFrom
 found-from b w zero i = λ h. absurd (omega arith)
 found-from b w (suc f) i =
-    by-test (λ (n : ℕ). n < i + suc f → (rowCell n 0 ≡ b) × (rowCell n 1 ≡ w)) (eqb (rowCell i 0) b && eqb (rowCell i 1) w)
-    (λ t h. (eqb-true (rowCell i 0) b (and-left (eqb (rowCell i 0) b) (eqb (rowCell i 1) w) t), eqb-true (rowCell i 1) w (and-right (eqb (rowCell i 0) b) (eqb (rowCell i 1) w) t)))
+    by-test (λ (n : ℕ). n < i + suc f → (rowAt n .parent ≡ b) × (rowAt n .word ≡ w)) (eqb (rowAt i .parent) b && eqb (rowAt i .word) w)
+    (λ t h. (eqb-true (rowAt i .parent) b (and-left (eqb (rowAt i .parent) b) (eqb (rowAt i .word) w) t), eqb-true (rowAt i .word) w (and-right (eqb (rowAt i .parent) b) (eqb (rowAt i .word) w) t)))
     (λ t h. found-from b w f (suc i) (omega arith))
 
-pub row-found : (b w : ℕ) → isRow (rowOf b w) ≡ true → (rowCell (rowOf b w) 0 ≡ b) × (rowCell (rowOf b w) 1 ≡ w)
+pub row-found : (b w : ℕ) → isRow (rowOf b w) ≡ true → (rowAt (rowOf b w) .parent ≡ b) × (rowAt (rowOf b w) .word ≡ w)
 unfolding rowOf
-row-found b w h = found-from b w (length rowCells) 0 (omega (arith, ltb-true (rowFrom (length rowCells) 0 b w) (length rowCells) h))
+row-found b w h = found-from b w (length rows) 0 (omega (arith, ltb-true (rowFrom (length rows) 0 b w) (length rows) h))

@@ -15,7 +15,7 @@ use Rattle.records.specs.Records.{mostOf, count}
 use Rattle.rows.specs.Codes.{FILE}
 use Rattle.rows.specs.Sections.{sections, entry}
 use Rattle.rows.specs.Row.{Param, name, string, whole, decimal, choice, new, points, alignment, nought, upper, pairs, number as entryNumber, text as entryText}
-use Rattle.rows.specs.Rows.{paramCell}
+use Rattle.rows.specs.Numbered.{paramAt}
 use Rattle.grammar.specs.Move.{view, writes, applied}
 use Rattle.grammar.specs.Parameter.{afterText, keeping, newRecord, signOf, twice, takenPairs}
 use Rattle.grammar.specs.Read.{onPiece, readFrom, start, read}
@@ -60,14 +60,14 @@ module _ (x : List ℕ) (d′ : Records) (f : ℕ) (ih : Claims x d′ f) (d : R
     G = Filling x d′ b j (q ∷ qs) k d
 
     -- it is one of the tree's, and the others follow
-    goes-on : (e : ℕ) (act : Act) (d₁ : Records) → applied act d ≡ d₁ → Parameter x b j q k d e d₁ → readFrom f x e (wanting b (paramCell p 2) 0) (applied act d) ≡ given d′ → G
+    goes-on : (e : ℕ) (act : Act) (d₁ : Records) → applied act d ≡ d₁ → Parameter x b j q k d e d₁ → readFrom f x e (wanting b (paramAt p .next) 0) (applied act d) ≡ given d′ → G
     goes-on e act d₁ z one h =
-        let w = ih .wants b j qs (paramCell p 2) e d₁ (c .1) fs (subst (λ (m : Records). readFrom f x e (wanting b (paramCell p 2) 0) m ≡ given d′) z h) in
+        let w = ih .wants b j qs (paramAt p .next) e d₁ (c .1) fs (subst (λ (m : Records). readFrom f x e (wanting b (paramAt p .next) 0) m ≡ given d′) z h) in
         (w .0, w .1, next one (w .2), w .3)
 
     -- its numbers are kept
     kept-on : (e m y z u : ℕ) → Parameter x b j q k d e (kept j (q .slot) (take m (y ∷ z ∷ u ∷ 0 ∷ [])) d)
-        → readFrom f x e (wanting b (paramCell p 2) 0) (applied (keeping (wanting b p 0) m y z u) d) ≡ given d′ → G
+        → readFrom f x e (wanting b (paramAt p .next) 0) (applied (keeping (wanting b p 0) m y z u) d) ≡ given d′ → G
     kept-on e m y z u = goes-on e (keeping (wanting b p 0) m y z u) (kept j (q .slot) (take m (y ∷ z ∷ u ∷ 0 ∷ [])) d) (keeps-at x b j 0 d p q (c .0) m y z u)
 
   module _ (b j : ℕ) (qs : List Param) (p k : ℕ) (fs : Forms qs) (t : piece.Kind) (a e : ℕ) (tok : Comes x k t a e) where
@@ -113,7 +113,7 @@ module _ (x : List ℕ) (d′ : Records) (f : ℕ) (ih : Claims x d′ f) (d : R
 
   -- ---- pairs
 
-  module _ (b j t p : ℕ) (i : IsParam p j entryNumber) (i′ : IsParam (paramCell p 2) j (entryText t)) where
+  module _ (b j t p : ℕ) (i : IsParam p j entryNumber) (i′ : IsParam (paramAt p .next) j (entryText t)) where
     -- where n pairs are to come
     come : (n k : ℕ) (d₁ : Records) → readFrom f x k (coming x b j p t i i′ n) d₁ ≡ given d′ → Pairing x d′ b n k d₁
     come zero k d₁ h = (k, d₁, tree.Pairs.noMore, ih .rests b k d₁ h)
@@ -122,10 +122,10 @@ module _ (x : List ℕ) (d′ : Records) (f : ℕ) (ih : Claims x d′ f) (d : R
     numbers-one : (n k : ℕ) → readFrom (suc f) x k (wanting b p (suc n)) d ≡ given d′ → Pairing x d′ b (suc n) k d
     numbers-one n k = by-token x d′ f d (Pairing x d′ b (suc n) k d) k (wanting b p (suc n)) one (λ m q. tt) where
       told : (a e : ℕ) (m : Scaled) → tree.Decimal x k m e → m .tens ≡ 0 → twice (view d) (signOf m) (m .whole) ≡ false → count d entry < mostOf sections entry
-          → readFrom f x e (wanting b (paramCell p 2) (suc n)) (applied (newRecord entry 2 (signOf m) (m .whole) 0 0) d) ≡ given d′ → Pairing x d′ b (suc n) k d
+          → readFrom f x e (wanting b (paramAt p .next) (suc n)) (applied (newRecord entry 2 (signOf m) (m .whole) 0 0) d) ≡ given d′ → Pairing x d′ b (suc n) k d
       told a e m v y z w h =
           let r = ih .texts b j t p i i′ n e (appended entry (signOf m ∷ m .whole ∷ []) d)
-          (subst (λ (c : Records). readFrom f x e (wanting b (paramCell p 2) (suc n)) c ≡ given d′) (applied-new entry 2 (signOf m) (m .whole) 0 0 d) h) in
+          (subst (λ (c : Records). readFrom f x e (wanting b (paramAt p .next) (suc n)) c ≡ given d′) (applied-new entry 2 (signOf m) (m .whole) 0 0 d) h) in
           (r .3 .0, r .3 .1, pair v y (once-apart d m z) w (r .2) (r .3 .2), r .3 .3)
 
       one : (u : piece.Kind) (a e : ℕ) → Comes x k u a e → Gives x d′ f d (Pairing x d′ b (suc n) k d) (onPiece x (view d) (wanting b p (suc n)) (kindNumber u) a e)
@@ -134,21 +134,21 @@ module _ (x : List ℕ) (d′ : Records) (f : ℕ) (ih : Claims x d′ f) (d : R
           (λ s. entry-on x d′ f d (Pairing x d′ b (suc n) k d) b j (suc n) p entryNumber i a e refl
           (λ m v y z w. told a e m (a, of-kind x k u a e piece.number s q, v) y z w))
 
-    texts-one : (n k : ℕ) → readFrom (suc f) x k (wanting b (paramCell p 2) (suc n)) d ≡ given d′ → Telling x d′ b n k d
-    texts-one n k = by-token x d′ f d (Telling x d′ b n k d) k (wanting b (paramCell p 2) (suc n)) one (λ m q. tt) where
-      told : (a e : ℕ) → Comes x k piece.string a e → readFrom f x e (afterText (wanting b (paramCell p 2) (suc n))) (applied (writes entry 2 2 a e 0) d) ≡ given d′ → Telling x d′ b n k d
+    texts-one : (n k : ℕ) → readFrom (suc f) x k (wanting b (paramAt p .next) (suc n)) d ≡ given d′ → Telling x d′ b n k d
+    texts-one n k = by-token x d′ f d (Telling x d′ b n k d) k (wanting b (paramAt p .next) (suc n)) one (λ m q. tt) where
+      told : (a e : ℕ) → Comes x k piece.string a e → readFrom f x e (afterText (wanting b (paramAt p .next) (suc n))) (applied (writes entry 2 2 a e 0) d) ≡ given d′ → Telling x d′ b n k d
       told a e q h = (
         a,
         e,
         q,
         come n e (written entry 2 (a ∷ e ∷ []) d)
             (subst (λ (s : State). readFrom f x e s (written entry 2 (a ∷ e ∷ []) d) ≡ given d′) (after-text x b j p t i i′ n)
-            (subst (λ (c : Records). readFrom f x e (afterText (wanting b (paramCell p 2) (suc n))) c ≡ given d′) (applied-writes entry 2 2 a e 0 d) h)),
+            (subst (λ (c : Records). readFrom f x e (afterText (wanting b (paramAt p .next) (suc n))) c ≡ given d′) (applied-writes entry 2 2 a e 0 d) h)),
       )
 
-      one : (u : piece.Kind) (a e : ℕ) → Comes x k u a e → Gives x d′ f d (Telling x d′ b n k d) (onPiece x (view d) (wanting b (paramCell p 2) (suc n)) (kindNumber u) a e)
+      one : (u : piece.Kind) (a e : ℕ) → Comes x k u a e → Gives x d′ f d (Telling x d′ b n k d) (onPiece x (view d) (wanting b (paramAt p .next) (suc n)) (kindNumber u) a e)
       one u a e q =
-          text-gives x d′ f d (Telling x d′ b n k d) b j (suc n) (paramCell p 2) (entryText t) i′ a e (kindNumber u) refl
+          text-gives x d′ f d (Telling x d′ b n k d) b j (suc n) (paramAt p .next) (entryText t) i′ a e (kindNumber u) refl
           (λ s h. told a e (of-kind x k u a e piece.string s q) h)
 
   -- how many pairs, and the pairs
@@ -160,9 +160,9 @@ module _ (x : List ℕ) (d′ : Records) (f : ℕ) (ih : Claims x d′ f) (d : R
 
     so-many : (e n : ℕ) → tree.Whole x k 65535 n e → n ≤ 65535 → Gives x d′ f d All (takenPairs (wanting b p 0) e n)
     so-many e n v l =
-        subst (Gives x d′ f d All) (sym (pairs-next x b j (paramCell p 2) t (c .1 .0) (c .1 .1 .0) p 0 (pairs s) (c .0) refl e n l))
-        (λ h. let r = come b j t (paramCell p 2) (c .1 .0) (c .1 .1 .0) n e (kept j s (n ∷ []) d)
-        (subst (λ (m : Records). readFrom f x e (coming x b j (paramCell p 2) t (c .1 .0) (c .1 .1 .0) n) m ≡ given d′) (keeps-at x b j 0 d p (pairs s) (c .0) 1 n 0 0) h) in
+        subst (Gives x d′ f d All) (sym (pairs-next x b j (paramAt p .next) t (c .1 .0) (c .1 .1 .0) p 0 (pairs s) (c .0) refl e n l))
+        (λ h. let r = come b j t (paramAt p .next) (c .1 .0) (c .1 .1 .0) n e (kept j s (n ∷ []) d)
+        (subst (λ (m : Records). readFrom f x e (coming x b j (paramAt p .next) t (c .1 .0) (c .1 .1 .0) n) m ≡ given d′) (keeps-at x b j 0 d p (pairs s) (c .0) 1 n 0 0) h) in
         (r .0, r .1, many v (r .2), r .3))
 
     one : (u : piece.Kind) (a e : ℕ) → Comes x k u a e → Gives x d′ f d All (onPiece x (view d) (wanting b p 0) (kindNumber u) a e)

@@ -18,7 +18,7 @@ use Rattle.words.specs.Class.{classAt}
 use Rattle.records.specs.Records.{mostOf, count}
 use Rattle.rows.specs.Sections.{sections, entry}
 use Rattle.rows.specs.Row.{Param, whole}
-use Rattle.rows.specs.Rows.{paramCell}
+use Rattle.rows.specs.Numbered.{paramAt}
 use Rattle.grammar.specs.Move.{view, writes, applied, Move, went, refused}
 use Rattle.grammar.specs.Parameter.{aName, aString, aNumber, afterText, keeping, newRecord, signOf, decimalIn, twice, find, takenWhole, takenPairs, takenEntry, takenDecimal, ofNumber, ofWhole, ofDecimal, takenNumber, takenNew, ofChoice, takenName, takenText, taken}
 use Rattle.grammar.specs.Read.{onPiece, readFrom}
@@ -37,7 +37,7 @@ module _ (x : List ℕ) (d′ : Records) (f : ℕ) (d : Records) (G : Type 0) wh
   module _ (b j n p : ℕ) (q : Param) (i : IsParam p j q) (a e : ℕ) where
     -- it goes on with the next parameter
     abbrev pub Goes : Act → Type 0
-    Goes act = readFrom f x e (wanting b (paramCell p 2) n) (applied act d) ≡ given d′ → G
+    Goes act = readFrom f x e (wanting b (paramAt p .next) n) (applied act d) ≡ given d′ → G
 
     pub name-gives : (t : ℕ) → q .kind ≡ 1 → (eqb t aName ≡ true → Goes (keeping (wanting b p n) 2 a e 0)) → Gives x d′ f d G (onPiece x (view d) (wanting b p n) t a e)
     unfolding onPiece taken takenName

@@ -22,7 +22,7 @@ use Rattle.words.specs.Class.{classAt}
 use Rattle.records.specs.Records.{mostOf, count, slot, add}
 use Rattle.rows.specs.Codes.{FILE, ANY, PROJECT}
 use Rattle.rows.specs.Sections.{sections, table, entry, object, axis}
-use Rattle.rows.specs.Row.{Param, name, string, whole, decimal, choice, new, points, alignment, nought, upper, pairs, number as entryNumber, text as entryText, Row, Need}
+use Rattle.rows.specs.Row.{Param, name, string, whole, decimal, choice, new, points, alignment, nought, upper, pairs, number as entryNumber, text as entryText, plain, Row, Need}
 use Rattle.rows.specs.Rows.{rows, needed, keeps}
 use Rattle.grammar.specs.Move.{view, puts}
 use Rattle.grammar.specs.Parameter.{decimalIn, signOf}
@@ -153,17 +153,13 @@ pub record Stands (x : List ℕ) (home b : ℕ) (r : Row) (k : ℕ) (d : Records
 abbrev pub Met : Records → ℕ → Type 0
 Met d b = (n : Need) → Among n needed → n .block ≡ b → Within d (n .sec) (n .when) (n .low) (n .high) → n .least ≤ current d (n .sec) (n .slot)
 
--- what a row says that neither opens a block nor refuses its keyword ("BYTE_ORDER inside AXIS_DESCR is 9")
-abbrev pub plain : ℕ
-plain = 0
-
 -- ---- blocks
 
 -- the content of the block b from the place k on, up to the place past its `/end` and word
 pub data Content (x : List ℕ) : ℕ → ℕ → Records → ℕ → Records → Type 0 where
   -- its end: what it needs is there
   closed : {b k a e k′ : ℕ} {d : Records} → Met d b → Comes x k piece.end a e → Word x e (word.takenBlock b) k′ → Content x b k d k′ d
-  -- a keyword of the block with its parameters
+  -- a keyword of the block with its parameters; one whose row refuses it is none of them ("BYTE_ORDER inside AXIS_DESCR is 9")
   holdsKeyword : {b k e k₁ k′ : ℕ} {d d₁ d′ : Records} (r : Row) → r .opens ≡ plain → Word x k (word.takenPlain (r .word)) e → Stands x b b r e d k₁ d₁
       → Content x b k₁ d₁ k′ d′ → Content x b k d k′ d′
   -- "keywords FORMAT, DISPLAY_IDENTIFIER, PHYS_UNIT, ASAP2_VERSION and A2ML_VERSION with their parameters; all may stand and repeat wherever an optional keyword may"

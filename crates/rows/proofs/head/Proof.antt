@@ -1,6 +1,7 @@
 use native.Mathlib.Omega.{arith}
 use lib.ListN.{take, replicate}
-use Rattle.rows.specs.Rows.{rowCells, rows}
+use Rattle.rows.specs.Rows.{rows}
+use Rattle.rows.specs.Cells.{rowCells}
 use Rattle.rows.proofs.head.Statement.{statement}
 use Rattle.rows.proofs.head.Tie as tie
 use Rattle.rows.proofs.TableLaws.{above, row-at, row-past}

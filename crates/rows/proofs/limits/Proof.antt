@@ -1,12 +1,14 @@
 use native.Mathlib.Omega.{arith}
 use lib.ListN.{replicate}
-use Rattle.rows.specs.Rows.{limitCells, rows}
+use Rattle.rows.specs.Rows.{rows}
+use Rattle.rows.specs.Numbered.{allParams}
+use Rattle.rows.specs.Cells.{limitCells}
 use Rattle.rows.proofs.limits.Statement.{statement}
 use Rattle.rows.proofs.limits.Tie as tie
 use Rattle.rows.proofs.TableLaws.{above, row-at, row-past}
 
 pub limits-spec : {M : Type 1} → statement M
-unfolding limitCells rows
+unfolding limitCells allParams rows
 limits-spec =
     tie.close
     (tie.spec

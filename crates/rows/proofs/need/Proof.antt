@@ -1,6 +1,7 @@
 use native.Mathlib.Omega.{arith}
 use lib.ListN.{replicate}
-use Rattle.rows.specs.Rows.{needCells, needed}
+use Rattle.rows.specs.Rows.{needed}
+use Rattle.rows.specs.Cells.{needCells}
 use Rattle.rows.proofs.need.Statement.{statement}
 use Rattle.rows.proofs.need.Tie as tie
 use Rattle.rows.proofs.TableLaws.{above, row-at, row-past}

@@ -1,12 +1,14 @@
 use native.Mathlib.Omega.{arith}
 use lib.ListN.{replicate}
-use Rattle.rows.specs.Rows.{paramCells, rows}
+use Rattle.rows.specs.Rows.{rows}
+use Rattle.rows.specs.Numbered.{allParams}
+use Rattle.rows.specs.Cells.{paramCells}
 use Rattle.rows.proofs.param.Statement.{statement}
 use Rattle.rows.proofs.param.Tie as tie
 use Rattle.rows.proofs.TableLaws.{above, row-at, row-past}
 
 pub param-spec : {M : Type 1} → statement M
-unfolding paramCells rows
+unfolding paramCells allParams rows
 param-spec =
     tie.close
     (tie.spec

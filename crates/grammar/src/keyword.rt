@@ -18,6 +18,21 @@ use crate::view::OBJECT;
 use crate::view::current_of;
 use rows::NEED_COUNT;
 use rows::ROW_COUNT;
+use rows::cells::NEED_BLOCK;
+use rows::cells::NEED_HIGH;
+use rows::cells::NEED_LEAST;
+use rows::cells::NEED_LOW;
+use rows::cells::NEED_SEC;
+use rows::cells::NEED_SLOT;
+use rows::cells::NEED_WHEN;
+use rows::cells::ROW_ADDS;
+use rows::cells::ROW_FIRST;
+use rows::cells::ROW_HIGH;
+use rows::cells::ROW_LOW;
+use rows::cells::ROW_ONCE;
+use rows::cells::ROW_OPENS;
+use rows::cells::ROW_SEC;
+use rows::cells::ROW_WHEN;
 use rows::is_row;
 use rows::need_cell;
 use rows::row_cell;
@@ -64,10 +79,10 @@ fn row_of(b: u8, w: u8) -> u8
 fn may_stand(t: &[u64], i: u8) -> bool
     ensures { λ r. ⌜ r ≡ mayStand (viewIn (now (t .entry))) i ⌝ }
 {
-    let when = row_cell(i, 5);
-    let held = current_of(t, row_cell(i, 3), when as u16);
-    let low = row_cell(i, 6) as u64;
-    let high = row_cell(i, 7) as u64;
+    let when = row_cell(i, ROW_WHEN);
+    let held = current_of(t, row_cell(i, ROW_SEC), when as u16);
+    let low = row_cell(i, ROW_LOW) as u64;
+    let high = row_cell(i, ROW_HIGH) as u64;
     (when == 0) | ((low <= held) & (held <= high))
 }
 
@@ -88,7 +103,7 @@ fn axes_of(kind: u64) -> u64
 fn limit_of(t: &[u64], i: u8) -> u64
     ensures { λ r. ⌜ r ≡ limitOf (viewIn (now (t .entry))) i ⌝ }
 {
-    if row_cell(i, 8) == AXIS {
+    if row_cell(i, ROW_ADDS) == AXIS {
         return axes_of(current_of(t, OBJECT, 4));
     }
     1
@@ -98,8 +113,8 @@ fn limit_of(t: &[u64], i: u8) -> u64
 fn is_often(t: &[u64], i: u8) -> bool
     ensures { λ r. ⌜ r ≡ isOften (viewIn (now (t .entry))) i ⌝ }
 {
-    let once = row_cell(i, 4);
-    let seen = current_of(t, row_cell(i, 3), once as u16);
+    let once = row_cell(i, ROW_ONCE);
+    let seen = current_of(t, row_cell(i, ROW_SEC), once as u16);
     (once != 0) & (limit_of(t, i) <= seen)
 }
 
@@ -114,14 +129,14 @@ fn one_more(n: u64) -> u64
 fn counting_of(t: &[u64], i: u8) -> Act
     ensures { λ r. ⌜ r ≡ counting (viewIn (now (t .entry))) i ⌝ }
 {
-    let slot = row_cell(i, 4);
+    let slot = row_cell(i, ROW_ONCE);
     if slot == 0 {
         return nothing();
     }
-    let sec = row_cell(i, 3);
+    let sec = row_cell(i, ROW_SEC);
     let seen = current_of(t, sec, slot as u16);
     Act {
-        adds: row_cell(i, 8),
+        adds: row_cell(i, ROW_ADDS),
         sec,
         slot,
         many: 1,
@@ -142,7 +157,7 @@ fn stand(t: &[u64], i: u8, inner: u8, a: usize, e: usize) -> Move
         }
         return go(
             e,
-            state_of(ITEMS, inner, row_cell(i, 9), 0),
+            state_of(ITEMS, inner, row_cell(i, ROW_FIRST), 0),
             counting_of(t, i),
         );
     }
@@ -154,7 +169,7 @@ fn plain_row(t: &[u64], s: State, i: u8, a: usize, e: usize) -> Move
     ensures { λ r. ⌜ moved r ≡ plainRow (viewIn (now (t .entry))) s i a e ⌝ }
 {
     if i < ROW_COUNT {
-        if row_cell(i, 2) == OUTSIDE {
+        if row_cell(i, ROW_OPENS) == OUTSIDE {
             return Move::Refused { no: 9, place: a };
         }
         return stand(t, i, s.block, a, e);
@@ -245,14 +260,14 @@ fn begun_word(x: &[u8], t: &[u64], s: State, a: usize, e: usize) -> Move
 fn is_met(t: &[u64], b: u8, i: u8) -> bool
     ensures { λ r. ⌜ r ≡ isMet (viewIn (now (t .entry))) b i ⌝ }
 {
-    let sec = need_cell(i, 1);
-    let when = need_cell(i, 2);
+    let sec = need_cell(i, NEED_SEC);
+    let when = need_cell(i, NEED_WHEN);
     let held = current_of(t, sec, when as u16);
-    let low = need_cell(i, 3) as u64;
-    let high = need_cell(i, 4) as u64;
-    let there = current_of(t, sec, need_cell(i, 5) as u16);
+    let low = need_cell(i, NEED_LOW) as u64;
+    let high = need_cell(i, NEED_HIGH) as u64;
+    let there = current_of(t, sec, need_cell(i, NEED_SLOT) as u16);
     let asked = (when == 0) | ((low <= held) & (held <= high));
-    (need_cell(i, 0) != b) | !asked | (need_cell(i, 6) as u64 <= there)
+    (need_cell(i, NEED_BLOCK) != b) | !asked | (need_cell(i, NEED_LEAST) as u64 <= there)
 }
 
 // Whether all needs of the block b are met.

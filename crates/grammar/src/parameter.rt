@@ -17,6 +17,12 @@ use crate::view::slot_of;
 use number::decimal::Decimal;
 use number::decimal::DecimalAnswer;
 use number::whole::WholeAnswer;
+use rows::cells::LIMIT_HIGH;
+use rows::cells::LIMIT_LOW;
+use rows::cells::PARAM_KIND;
+use rows::cells::PARAM_NEXT;
+use rows::cells::PARAM_SEC;
+use rows::cells::PARAM_SLOT;
 use rows::limit_cell;
 use rows::param_cell;
 use text::cursor::Cursor;
@@ -107,7 +113,7 @@ fn after_of(s: State) -> State
     State {
         mode: ITEMS,
         block: s.block,
-        param: param_cell(s.param, 2),
+        param: param_cell(s.param, PARAM_NEXT),
         left: s.left,
     }
 }
@@ -116,13 +122,13 @@ fn after_of(s: State) -> State
 fn kept(s: State, many: u8, x: u64, y: u64, z: u64) -> Act
     ensures { λ r. ⌜ r ≡ keeping s many x y z ⌝ }
 {
-    let slot = param_cell(s.param, 1);
+    let slot = param_cell(s.param, PARAM_SLOT);
     if slot == 0 {
         return nothing();
     }
     Act {
         adds: NONE,
-        sec: param_cell(s.param, 3),
+        sec: param_cell(s.param, PARAM_SEC),
         slot,
         many,
         a: x,
@@ -143,14 +149,14 @@ fn is_alignment(n: u64) -> bool
 fn taken_whole(s: State, a: usize, e: usize, n: u64) -> Move
     ensures { λ r. ⌜ moved r ≡ takenWhole s a e n ⌝ }
 {
-    let kind = param_cell(s.param, 0);
-    if n < limit_cell(s.param, 0) {
+    let kind = param_cell(s.param, PARAM_KIND);
+    if n < limit_cell(s.param, LIMIT_LOW) {
         return Move::Refused { no: 2, place: a };
     }
-    if (kind == 7) & (MOST_POINTS < n) {
+    if (kind == rows::kinds::POINTS) & (MOST_POINTS < n) {
         return Move::Refused { no: 8, place: a };
     }
-    if (kind == 8) & !is_alignment(n) {
+    if (kind == rows::kinds::ALIGNMENT) & !is_alignment(n) {
         return Move::Refused { no: 2, place: a };
     }
     go(e, after_of(s), kept(s, 1, n, 0, 0))
@@ -173,7 +179,7 @@ fn taken_pairs(s: State, e: usize, n: u64) -> Move
     }
     go(
         e,
-        state_of(ITEMS, block, param_cell(s.param, 2), pairs_left(n)),
+        state_of(ITEMS, block, param_cell(s.param, PARAM_NEXT), pairs_left(n)),
         kept(s, 1, n, 0, 0),
     )
 }
@@ -253,22 +259,22 @@ fn taken_entry(t: &[u64], s: State, a: usize, e: usize, d: Decimal) -> Move
 fn is_upper(t: &[u64], s: State, d: Decimal) -> bool
     ensures { λ r. ⌜ r ≡ atMost (decimalIn (viewIn (now (t .entry))) (secOf s) (slotOf s - 3)) (scaled d) ⌝ }
 {
-    let k = three_before(param_cell(s.param, 1));
-    convert::limit::at_most(decimal_at(t, param_cell(s.param, 3), k), d)
+    let k = three_before(param_cell(s.param, PARAM_SLOT));
+    convert::limit::at_most(decimal_at(t, param_cell(s.param, PARAM_SEC), k), d)
 }
 
 // A decimal in its parameter's place.
 fn taken_decimal(t: &[u64], s: State, a: usize, e: usize, d: Decimal) -> Move
     ensures { λ r. ⌜ moved r ≡ takenDecimal (viewIn (now (t .entry))) s a e (scaled d) ⌝ }
 {
-    let kind = param_cell(s.param, 0);
-    if kind == 12 {
+    let kind = param_cell(s.param, PARAM_KIND);
+    if kind == rows::kinds::NUMBER {
         return taken_entry(t, s, a, e, d);
     }
-    if (kind == 9) & (d.whole != 0) {
+    if (kind == rows::kinds::NOUGHT) & (d.whole != 0) {
         return Move::Refused { no: 9, place: a };
     }
-    if (kind == 10) & !is_upper(t, s, d) {
+    if (kind == rows::kinds::UPPER) & !is_upper(t, s, d) {
         return Move::Refused { no: 5, place: a };
     }
     let sign = sign_of(d);
@@ -279,7 +285,7 @@ fn taken_decimal(t: &[u64], s: State, a: usize, e: usize, d: Decimal) -> Move
 fn pairs_of(x: &[u8], s: State, a: usize, e: usize) -> Move
     ensures { λ r. ⌜ moved r ≡ ofPairs (now (x .entry)) s a e ⌝ }
 {
-    match runs::whole::whole_in(x, a, e, limit_cell(s.param, 1)) {
+    match runs::whole::whole_in(x, a, e, limit_cell(s.param, LIMIT_HIGH)) {
         WholeAnswer::Number(n) => taken_pairs(s, e, n),
         WholeAnswer::Refused { no } => Move::Refused { no, place: a },
     }
@@ -289,7 +295,7 @@ fn pairs_of(x: &[u8], s: State, a: usize, e: usize) -> Move
 fn whole_of(x: &[u8], s: State, a: usize, e: usize) -> Move
     ensures { λ r. ⌜ moved r ≡ ofWhole (now (x .entry)) s a e ⌝ }
 {
-    match runs::whole::whole_in(x, a, e, limit_cell(s.param, 1)) {
+    match runs::whole::whole_in(x, a, e, limit_cell(s.param, LIMIT_HIGH)) {
         WholeAnswer::Number(n) => taken_whole(s, a, e, n),
         WholeAnswer::Refused { no } => Move::Refused { no, place: a },
     }
@@ -309,11 +315,14 @@ fn decimal_of(x: &[u8], t: &[u64], s: State, a: usize, e: usize) -> Move
 fn taken_number(x: &[u8], t: &[u64], s: State, a: usize, e: usize) -> Move
     ensures { λ r. ⌜ moved r ≡ takenNumber (now (x .entry)) (viewIn (now (t .entry))) s a e ⌝ }
 {
-    let kind = param_cell(s.param, 0);
-    if kind == 11 {
+    let kind = param_cell(s.param, PARAM_KIND);
+    if kind == rows::kinds::PAIRS {
         return pairs_of(x, s, a, e);
     }
-    if (kind == 3) | (kind == 7) | (kind == 8) {
+    if (kind == rows::kinds::WHOLE)
+        | (kind == rows::kinds::POINTS)
+        | (kind == rows::kinds::ALIGNMENT)
+    {
         return whole_of(x, s, a, e);
     }
     decimal_of(x, t, s, a, e)
@@ -323,7 +332,7 @@ fn taken_number(x: &[u8], t: &[u64], s: State, a: usize, e: usize) -> Move
 fn made(t: &[u64], s: State, a: usize, e: usize, j: u8) -> Move
     ensures { λ r. ⌜ moved r ≡ went e (after s) (newRecord j 4 a e (viewIn (now (t .entry)) .counts (slotOf s)) (s .block)) ⌝ }
 {
-    let held = count_of(t, param_cell(s.param, 1)) as u64;
+    let held = count_of(t, param_cell(s.param, PARAM_SLOT)) as u64;
     let act = record_of(j, 4, a as u64, e as u64, held, s.block as u64);
     go(e, after_of(s), act)
 }
@@ -332,7 +341,7 @@ fn made(t: &[u64], s: State, a: usize, e: usize, j: u8) -> Move
 fn taken_new(x: &[u8], t: &[u64], s: State, a: usize, e: usize) -> Move
     ensures { λ r. ⌜ moved r ≡ takenNew (now (x .entry)) (viewIn (now (t .entry))) s a e ⌝ }
 {
-    let j = param_cell(s.param, 3);
+    let j = param_cell(s.param, PARAM_SEC);
     let Found::Nothing = find(x, t, j, a, e) else {
         return Move::Refused { no: 6, place: a };
     };
@@ -348,7 +357,7 @@ fn chosen(s: State, a: usize, e: usize, c: u8) -> Move
     ensures { λ r. ⌜ moved r ≡ ofChoice s a e (takenChoice c) ⌝ }
 {
     let n = c as u64;
-    if (limit_cell(s.param, 0) <= n) & (n <= limit_cell(s.param, 1)) {
+    if (limit_cell(s.param, LIMIT_LOW) <= n) & (n <= limit_cell(s.param, LIMIT_HIGH)) {
         return go(e, after_of(s), kept(s, 1, n, 0, 0));
     }
     Move::Refused { no: 5, place: a }
@@ -373,11 +382,11 @@ fn choice_of(x: &[u8], s: State, a: usize, e: usize) -> Move
 fn taken_name(x: &[u8], t: &[u64], s: State, a: usize, e: usize) -> Move
     ensures { λ r. ⌜ moved r ≡ takenName (now (x .entry)) (viewIn (now (t .entry))) s a e ⌝ }
 {
-    let kind = param_cell(s.param, 0);
-    if kind == 6 {
+    let kind = param_cell(s.param, PARAM_KIND);
+    if kind == rows::kinds::NEW {
         return taken_new(x, t, s, a, e);
     }
-    if kind == 5 {
+    if kind == rows::kinds::CHOICE {
         return choice_of(x, s, a, e);
     }
     go(e, after_of(s), kept(s, 2, a as u64, e as u64, 0))
@@ -422,7 +431,7 @@ fn text_act(a: u64, e: u64) -> Act
 fn taken_text(s: State, a: usize, e: usize) -> Move
     ensures { λ r. ⌜ moved r ≡ takenText s a e ⌝ }
 {
-    if param_cell(s.param, 0) == 13 {
+    if param_cell(s.param, PARAM_KIND) == rows::kinds::TEXT {
         return go(e, after_text(s), text_act(a as u64, e as u64));
     }
     go(e, after_of(s), kept(s, 2, a as u64, e as u64, 0))
@@ -432,14 +441,14 @@ fn taken_text(s: State, a: usize, e: usize) -> Move
 pub fn taken(x: &[u8], t: &[u64], s: State, k: u8, a: usize, e: usize) -> Move
     ensures { λ r. ⌜ moved r ≡ taken (now (x .entry)) (viewIn (now (t .entry))) s k a e ⌝ }
 {
-    let kind = param_cell(s.param, 0);
-    if (kind == 2) | (kind == 13) {
+    let kind = param_cell(s.param, PARAM_KIND);
+    if (kind == rows::kinds::STRING) | (kind == rows::kinds::TEXT) {
         if k == TEXT {
             return taken_text(s, a, e);
         }
         return refuse(5, x, k, a, e);
     }
-    if (kind == 1) | (kind == 5) | (kind == 6) {
+    if (kind == rows::kinds::NAME) | (kind == rows::kinds::CHOICE) | (kind == rows::kinds::NEW) {
         if k == NAME {
             return taken_name(x, t, s, a, e);
         }

@@ -1,5 +1,7 @@
 // The grammar's rows as numbers: specs/Rows.antt has them in words, and the proofs compute that they are the same.
 // Each table is a match and no array: an array that is indexed would be copied by every call.
+pub mod cells;
+pub mod kinds;
 
 ghost use mathlib.Core.Path.{_≡_};
 ghost use mathlib.Core.Bool.{_&&_};

@@ -12,10 +12,11 @@ use mir.Syntax.{Width, w64}
 use mir.Val.{Fits, bits}
 use Rattle.cell.specs.Kind.{shapeOf}
 use Rattle.cell.proofs.Shapes.{bytes-le}
-use Rattle.tables.specs.Form.{tablesIn}
-use Rattle.tables.specs.Group.{elements, placeOf, position, storageOf, placeBy}
+use Rattle.tables.specs.Form.{Tables, tablesIn, pastPoints}
+use Rattle.tables.specs.Group.{elements, placeOf, position, storageOf, reachable, placeBy}
 use Rattle.tables.specs.declared.group.Storage.{Storage}
 use Rattle.tables.proofs.Addressing.{position-below}
+use Rattle.tables.proofs.GroupLaws.{elements-most, stored-reachable}
 use Rattle.tables.proofs.All.{left, right, three}
 use Rattle.look.specs.Element.{shares, touched}
 use Rattle.look.specs.Steps.{picked}
@@ -23,6 +24,10 @@ use Rattle.look.specs.Steps.{picked}
 -- ---- one element
 pub touch-by : (s : Storage) (lo hi i p w : ℕ) (b : Bool) → p ≡ placeBy s i → w ≡ shapeOf (s .kind) .bytes → b ≡ shares lo hi p w → b ≡ shares lo hi (placeBy s i) (shapeOf (s .kind) .bytes)
 touch-by s lo hi i p w b e f h = h ∙ rw (e, f)
+
+-- every element of a group can be reached
+pub reached : (T : Tables) (g n i : ℕ) (s : Storage) → s ≡ storageOf T g → n ≡ elements T g → i < n → reachable s i
+reached T g n i s e p h = stored-reachable T g i s e (omega (arith, elements-most T g))
 
 pub touch-group : (t : List ℕ) (lo hi g i : ℕ) (s : Storage) (b : Bool) → s ≡ storageOf (tablesIn t) g → b ≡ shares lo hi (placeBy s i) (shapeOf (s .kind) .bytes) → b ≡ touched t lo hi g i
 unfolding touched placeOf
@@ -37,16 +42,11 @@ holds-is x wide y high w h =
       or-second true b e k = k
       or-second false b e k = absurd (false≢true e)
 
-room-small : (a b : ℕ) → a < 2 ^ 16 → b < 2 ^ 16 → a * b ≤ 4294836225
-room-small a b p q = mul-le-mul {n₂ = 65535} {m₂ = 65535} (omega arith) (omega arith)
+pub room-small : (a b : ℕ) → a ≤ pastPoints → b ≤ pastPoints → a * b ≤ pastPoints * pastPoints
+room-small a b p q = mul-le-mul {n₂ = pastPoints} {m₂ = pastPoints} p q
 
-pub room-fits : (w : Width) (a b : ℕ) → a < 2 ^ 16 → b < 2 ^ 16 → T (ltb 4294836225 (2 ^ bits w)) → Fits w (a * b)
-room-fits w a b p q t = record { fits = omega (arith, room-small a b p q, ltb→lt 4294836225 (2 ^ bits w) t) }
-
-pub room-bytes-fit : (k h a b : ℕ) → h ≡ shapeOf k .bytes → a < 2 ^ 16 → b < 2 ^ 16 → Fits w64 (h * (a * b))
-room-bytes-fit k h a b e p q =
-    let m : h * (a * b) ≤ 4 * 4294836225 = mul-le-mul {n₂ = 4} {m₂ = 4294836225} (rw e (bytes-le k)) (room-small a b p q) in
-    record { fits = omega (arith, m) }
+pub room-bytes-small : (k h r : ℕ) → h ≡ shapeOf k .bytes → r ≤ pastPoints * pastPoints → h * r ≤ 4 * (pastPoints * pastPoints)
+room-bytes-small k h r e p = mul-le-mul {n₂ = 4} {m₂ = pastPoints * pastPoints} (rw e (bytes-le k)) p
 
 pub room-is : (k h r : ℕ) → h ≡ shapeOf k .bytes → h * r ≡ shapeOf k .bytes * r
 room-is k h r e = rw e

@@ -16,8 +16,7 @@ ghost use Prim.Native.Nat.{ℕ, _+_, _*_, _≤_, _<_};
 ghost use lib.ListN.{set};
 ghost use Rattle.cell.specs.Kind.{shapeOf};
 ghost use Rattle.tables.specs.Form.{tablesIn};
-ghost use Rattle.number.specs.Below.{sumBelow};
-ghost use Rattle.tables.specs.Group.{elements, storageOf, placeBy};
+ghost use Rattle.tables.specs.Group.{sumBelow, elements, storageOf, modest, reachable, placeBy};
 ghost use Rattle.look.specs.Element.{lineOf, shares};
 ghost use Rattle.look.specs.Calls.{kept, room, groups, refreshed};
 ghost use Rattle.look.specs.Steps.{picked, putLine, putLines, meaningOf};
@@ -71,9 +70,10 @@ fn refresh_line(
     many: u64,
     s: Storage,
     m: Meaning,
-    i: u32,
+    i: u64,
     k: usize,
 )
+    requires { ⌜ reachable s i ⌝ }
     ensures { λ _. ⌜ ((g : ℕ) → s ≡ storageOf (tablesIn (now (t .entry))) g → m ≡ meaningOf (now (t .entry)) g
         → kept (now (image .entry)) (now (raw .exit)) (now (state .exit)) (now (first .exit)) (now (second .exit))
         ≡ putLine (picked (now (t .entry)) lo (lo + many) all g i) k (lineOf (now (t .entry)) (now (image .entry)) g i)
@@ -87,6 +87,7 @@ fn refresh_line(
 
 // Whether a group is passed as a whole: not all lines are worked out afresh, and its bytes lie apart.
 fn passes(all: bool, s: Storage, lo: u64, many: u64) -> bool
+    requires { ⌜ modest s ⌝ }
     ensures { λ r. ⌜ (r ≡ true → (i : ℕ) → i < s .x * s .y → (all || shares lo (lo + many) (placeBy s i) (shapeOf (s .kind) .bytes)) ≡ false) ⌝ }
 {
     if all {
@@ -107,7 +108,7 @@ fn refresh_group(
     lo: u64,
     many: u64,
     g: u16,
-    n: u32,
+    n: u64,
     k: usize,
 )
     requires { ⌜ n ≡ elements (tablesIn (now t)) g ⌝ }
@@ -124,7 +125,7 @@ fn refresh_group(
         return;
     }
     let m = meaning_of(t, g);
-    let mut i: u32 = 0;
+    let mut i: u64 = 0;
     while i < n {
         refresh_line(
             t,

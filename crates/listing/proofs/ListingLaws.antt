@@ -12,7 +12,7 @@ use lib.Dec.{leb}
 use lib.IntN.{ℤ, pos}
 use lib.Signed.{mag}
 use mir.Syntax.{w64}
-use mir.Val.{toZ, ofZ}
+use mir.Val.{Fits, toZ, ofZ}
 use mir.Facts.{toZ-ofZ}
 use lib.ListN.{length, getD, List·getD-eq-default}
 use lib.Seq.{sets-eq}
@@ -25,6 +25,7 @@ use Rattle.tables.specs.Group.{groupOf, elements, lineOf}
 use Rattle.tables.specs.Rule.{keepsRule}
 use Rattle.tables.specs.Sizes.{sizesFit}
 use Rattle.tables.proofs.All.{left}
+use Rattle.tables.proofs.GroupLaws.{elements-most}
 use Rattle.tables.proofs.LoopLaws.{sum-on, sum-small}
 use Rattle.tables.proofs.Reading.{total-is, total-most}
 use Rattle.look.specs.Element.{pastRecords}
@@ -133,6 +134,9 @@ module _ (x t : List ℕ) (c : Columns) where
           let d : Put at (printedBelow x t c m ++ []) out p now = rw (z, f) at (u .done) in
           rw append-nil at d
 
+      pub upto-index : Upto at n out g i k p now → Fits w64 i
+      upto-index u = let l = u .within in record { fits = omega (arith, elements-most (tablesIn t) g) }
+
       pub upto-kept : Upto at n out g i k p now → length now ≡ length out
       upto-kept u = length-put (u .done)
 
@@ -146,7 +150,7 @@ module _ (x t : List ℕ) (c : Columns) where
           let v = u .most in
           omega arith
 
-pub ruleset uptos = (upto-start, upto-line, upto-next, upto-done, upto-room, upto-kept, needs)
+pub ruleset uptos = (upto-start, upto-line, upto-next, upto-done, upto-room, upto-index, upto-kept, needs)
 
 -- ---- the whole
 
@@ -264,11 +268,14 @@ module _ (t : List ℕ) where
   pub record Counted (g h s : ℕ) : Type 0 where
     pub up : h ≤ g
     pub sum : s ≡ sumBelow h (elements (tablesIn t))
-    pub small : s ≤ 2 ^ 45
+    pub small : s ≤ 2 ^ 50
 
   pub counted-start : (g : ℕ) → Counted g 0 0
   unfolding sumBelow
   counted-start g = record { up = omega arith; sum = refl; small = omega arith }
+
+  pub counted-fits : (g h s e : ℕ) → e ≡ elements (tablesIn t) h → Counted g h s → Fits w64 (s + e)
+  counted-fits g h s e q c = let l = c .small in record { fits = omega (arith, elements-most (tablesIn t) h) }
 
   pub counted-more : (g h s e : ℕ) → h < g → g < 65536 → e ≡ elements (tablesIn t) h → Counted g h s → Counted g (h + 1) (s + e)
   counted-more g h s e l b q c = record { up = omega arith; sum = sum-on (tablesIn t) h s e (c .sum) q; small = sum-small (tablesIn t) h s e (c .sum) q (omega arith) }
@@ -276,4 +283,4 @@ module _ (t : List ℕ) where
   pub counted-all : (g h s : ℕ) → g ≤ h → Counted g h s → s ≡ sumBelow g (elements (tablesIn t))
   counted-all g h s l c = let u = c .up in let e : h ≡ g = omega arith in rw e at (c .sum)
 
-pub ruleset counteds = (counted-start, counted-more, counted-all, needs)
+pub ruleset counteds = (counted-start, counted-fits, counted-more, counted-all, needs)

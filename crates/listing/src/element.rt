@@ -90,7 +90,7 @@ pub fn check_list(
 
 // How many lines stand before group g's.
 fn lines_before(t: &[u64], g: u16) -> usize
-    ensures { λ r. ⌜ (r ≡ sumBelow g (elements (tablesIn (now (t .entry))))) × (r ≤ 2 ^ 45) ⌝ }
+    ensures { λ r. ⌜ (r ≡ sumBelow g (elements (tablesIn (now (t .entry))))) × (r ≤ 2 ^ 50) ⌝ }
 {
     let mut sum: usize = 0;
     let mut h: u16 = 0;

@@ -46,7 +46,7 @@ fn put_elements(
     let mut k: usize = 0;
     let mut p = at;
     while g < groups {
-        if i < elements_of(t, g) {
+        if (i as u64) < elements_of(t, g) {
             p = put_element(out, p, x, t, raw, state, first, second, g, i, k);
             i += 1;
             k += 1;

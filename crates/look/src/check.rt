@@ -51,5 +51,5 @@ pub fn is_element(t: &[u64], object: u32, part: u8, index: u32) -> bool
     if PARTS <= (part as u16) {
         return false;
     }
-    index < elements_of(t, group_of(object, part))
+    (index as u64) < elements_of(t, group_of(object, part))
 }

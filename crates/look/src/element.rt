@@ -12,7 +12,7 @@ ghost use Prim.Native.Nat.{_-_, min};
 ghost use Rattle.convert.specs.Told.{held};
 ghost use Rattle.cell.specs.Kind.{shapeOf};
 ghost use Rattle.cell.specs.Raw.{rawAt};
-ghost use Rattle.tables.specs.Group.{placeBy};
+ghost use Rattle.tables.specs.Group.{reachable, placeBy};
 ghost use Rattle.look.specs.Element.{pastRecords, lastEntry, entryCell, textAt, rawIn};
 
 // A line of the list: the raw number, the state (0 none, 1 number, 2 text), and its two numbers or places.
@@ -82,7 +82,8 @@ pub fn text_at(t: &[u64], s: u16, raw: i64) -> Physical
 }
 
 // The raw number of element i of what is stored so.
-pub fn raw_by(image: &[u8], s: Storage, i: u32) -> i64
+pub fn raw_by(image: &[u8], s: Storage, i: u64) -> i64
+    requires { ⌜ reachable s i ⌝ }
     ensures { λ r. ⌜ r ≡ rawAt (s .first) (placeBy s i) (shapeOf (s .kind)) (s .mask) (now (image .entry)) ⌝ }
 {
     let at = place_by(s, i) as usize;
@@ -93,5 +94,5 @@ pub fn raw_by(image: &[u8], s: Storage, i: u32) -> i64
 pub fn raw_of(t: &[u64], image: &[u8], g: u16, i: u32) -> i64
     ensures { λ r. ⌜ r ≡ rawIn (now (t .entry)) (now (image .entry)) g i ⌝ }
 {
-    raw_by(image, storage_of(t, g), i)
+    raw_by(image, storage_of(t, g), i as u64)
 }

@@ -18,7 +18,7 @@ ghost use Prim.Native.Nat.{ℕ};
 ghost use Rattle.convert.specs.Fraction.{fractionOf};
 ghost use Rattle.convert.specs.Told.{held};
 ghost use Rattle.tables.specs.Form.{tablesIn};
-ghost use Rattle.tables.specs.Group.{storageOf};
+ghost use Rattle.tables.specs.Group.{storageOf, reachable};
 ghost use Rattle.look.specs.Element.{textAt, means, lineOf};
 ghost use Rattle.look.specs.Steps.{meaningOf};
 
@@ -74,7 +74,8 @@ fn line_with(raw: i64, p: Physical) -> Line
 }
 
 // The line of element i of a group, of which is known how it is stored and what its raw numbers mean by.
-pub fn line_by(t: &[u64], image: &[u8], s: Storage, m: Meaning, i: u32) -> Line
+pub fn line_by(t: &[u64], image: &[u8], s: Storage, m: Meaning, i: u64) -> Line
+    requires { ⌜ reachable s i ⌝ }
     ensures { λ r. ⌜ ((g : ℕ) → s ≡ storageOf (tablesIn (now (t .entry))) g → m ≡ meaningOf (now (t .entry)) g → r ≡ lineOf (now (t .entry)) (now (image .entry)) g i) ⌝ }
 {
     let raw = raw_by(image, s, i);

@@ -14,6 +14,9 @@ use tables::group::bytes_of;
 use tables::group::elements_of;
 use tables::group::place_of;
 
+// The largest index.
+const MOST_INDEX: u32 = 4294967295;
+
 // Writes the line of one element; false where it is refused instead.
 pub fn is_line_printed(
     x: &[u8],
@@ -90,6 +93,15 @@ fn is_picked_printed(
     true
 }
 
+// As many of n as an index counts.
+fn counted(n: u64) -> u32 {
+    if n < (MOST_INDEX as u64) {
+        n as u32
+    } else {
+        MOST_INDEX
+    }
+}
+
 // Writes the lines of a group: all of them, or those that have one of so many bytes from lo on; false where one is refused.
 fn is_group_printed(
     x: &[u8],
@@ -105,7 +117,7 @@ fn is_group_printed(
     many: u64,
     g: u16,
 ) -> bool {
-    let n = elements_of(t, g);
+    let n = counted(elements_of(t, g));
     let mut i: u32 = 0;
     while i < n {
         if !is_picked_printed(

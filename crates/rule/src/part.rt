@@ -28,9 +28,9 @@ ghost use Rattle.tables.specs.Form.{tablesIn};
 ghost use Rattle.tables.specs.Rule.{isNoPart, pointsRule, counterRule, axisRule, valuesRule, limitsRule, bytesRule, roleRule, partRule, groupRule};
 
 // "4,096 elements in all objects", and the most points of an axis.
-const MOST_POINTS: u16 = 4096;
+const MOST_POINTS: u32 = 4096;
 
-const MOST_AXIS: u16 = 256;
+const MOST_AXIS: u32 = 256;
 
 // The numbers of a group, and of its lower and upper limit.
 const WIDTH: u8 = 19;
@@ -64,7 +64,7 @@ fn keeps_counter(t: &[u64], g: u16, m: usize) -> bool
     let kind = counter_of(t, g);
     let cell = slot_of(t, GROUP, g, 18);
     let place = counter_place_of(t, g);
-    let inside = is_inside(m, place, type_bytes(kind));
+    let inside = is_inside(m, place, type_bytes(kind) as u64);
     ((kind == 0) & (cell == 0)) | (is_type(kind) & inside)
 }
 
@@ -106,8 +106,8 @@ fn keeps_limits(t: &[u64], g: u16) -> bool
 fn keeps_bytes(t: &[u64], g: u16, m: usize) -> bool
     ensures { λ r. ⌜ r ≡ bytesRule (tablesIn (now (t .entry))) g m ⌝ }
 {
-    let room = (wide_of(t, g) as u32) * (high_of(t, g) as u32);
-    is_inside(m, start_of(t, g), bytes_of(t, g) * room)
+    let room = (wide_of(t, g) as u64) * (high_of(t, g) as u64);
+    is_inside(m, start_of(t, g), (bytes_of(t, g) as u64) * room)
 }
 
 // Whether a part keeps the rule of axes or of values, as its place in the object asks.

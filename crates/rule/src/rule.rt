@@ -114,7 +114,7 @@ fn sum_of(t: &[u64]) -> u64
     let mut sum: u64 = 0;
     let mut g: u16 = 0;
     while g < count {
-        sum += elements_of(t, g) as u64;
+        sum += elements_of(t, g);
         g += 1;
     }
     sum

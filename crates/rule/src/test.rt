@@ -40,10 +40,10 @@ pub fn is_text(n: usize, from: u64, past: u64) -> bool
 }
 
 // Whether so many bytes from a place on are inside an image of m bytes.
-pub fn is_inside(m: usize, at: u32, many: u32) -> bool
+pub fn is_inside(m: usize, at: u32, many: u64) -> bool
     ensures { λ r. ⌜ r ≡ insideRule m at many ⌝ }
 {
-    (at as u64) + (many as u64) <= (m as u64)
+    is_sum_within(at as u64, many, m as u64)
 }
 
 // Whether a sum is at most a number.

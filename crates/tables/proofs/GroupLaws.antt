@@ -7,7 +7,7 @@ use native.Mathlib.Omega.{arith}
 use native.Mathlib.Nat.{mul-le-mul, mod-le, div-le-self, mod-zero, div-zero}
 use borrow.Author.Needs.{needs}
 use borrow.Author.Tests.{le-ltb, eq-eqb, ne-eqb}
-use mir.Syntax.{w32}
+use mir.Syntax.{w64}
 use mir.Val.{Fits}
 use lib.Dec.{eqb}
 use lib.IntN.{ℤ}
@@ -19,7 +19,7 @@ use Rattle.cell.specs.Kind.{shapeOf}
 use Rattle.cell.proofs.Shapes.{bytes-le}
 use Rattle.records.specs.Cells.{sectionIn, slotIn}
 use Rattle.tables.specs.Form.{tableSections, groupSection, methodSection, Tables, tablesIn, pastPoints, pastCoefficient, kind, first, place, x, y, wide, high, walk, mask, forbidden, limit, coefficient, coefficients}
-use Rattle.tables.specs.Group.{position, elements, bytes, placeOf, storageOf, placeBy}
+use Rattle.tables.specs.Group.{position, elements, bytes, placeOf, storageOf, reachable, placeBy}
 use Rattle.tables.specs.declared.group.Storage.{Storage}
 
 module _ (t : List ℕ) (g : ℕ) where
@@ -45,15 +45,15 @@ pub ruleset fields = (first-is, forbidden-is, limit-past, limit-is, needs)
 
 -- ---- how many
 
-few-points : (u : ℕ) → min u pastPoints ≤ 4097
+few-points : (u : ℕ) → min u pastPoints ≤ pastPoints
 few-points u = omega arith
 
 -- no group has more elements than this, and their number fits
-pub elements-most : (T : Tables) (g : ℕ) → elements T g ≤ 16785409
+pub elements-most : (T : Tables) (g : ℕ) → elements T g ≤ pastPoints * pastPoints
 elements-most T g = mul-le-mul (few-points (T .slots groupSection g 3)) (few-points (T .slots groupSection g 4))
 
 module _ (T : Tables) (g a b : ℕ) (p : a ≡ x T g) (q : b ≡ y T g) where
-  pub elements-fit : Fits w32 (a * b)
+  pub elements-fit : Fits w64 (a * b)
   elements-fit = rw (p, q) (record { fits = omega (arith, elements-most T g) })
 
   pub elements-are : a * b ≡ elements T g
@@ -79,8 +79,8 @@ no-x i x h = rw h (sym (mod-zero i))
 pub ruleset split-points = (no-y, no-x, needs)
 
 -- a product of an index's point and a room
-small-product : (i a k : ℕ) → a ≤ i → i < 2 ^ 32 → k < 2 ^ 16 → a * k ≤ 2 ^ 32 * 2 ^ 16
-small-product i a k h p q = mul-le-mul {n₂ = 2 ^ 32} {m₂ = 2 ^ 16} (omega arith) (omega arith)
+small-product : (i a k : ℕ) → a ≤ i → i < 2 ^ 40 → k < 2 ^ 17 → a * k ≤ 2 ^ 40 * 2 ^ 17
+small-product i a k h p q = mul-le-mul {n₂ = 2 ^ 40} {m₂ = 2 ^ 17} (omega arith) (omega arith)
 
 module _ (w x wide high i : ℕ) where
   -- a and b are the x and the y point of i
@@ -93,13 +93,13 @@ module _ (w x wide high i : ℕ) where
     unfolding position
     at-listed h l = rw (ne-eqb w 2 h, ne-eqb w 1 l, p, q)
 
-    pub column-fits : i < 2 ^ 32 → high < 2 ^ 16 → a * high + b ≤ 2 ^ 49
+    pub column-fits : i < 2 ^ 40 → high < 2 ^ 17 → a * high + b ≤ 2 ^ 58
     column-fits h l =
         let c : a ≤ i = rw p (mod-le i x) in
         let d : b ≤ i = rw q (div-le-self i x) in
         omega (arith, small-product i a high c h l)
 
-    pub row-fits : i < 2 ^ 32 → wide < 2 ^ 16 → b * wide + a ≤ 2 ^ 49
+    pub row-fits : i < 2 ^ 40 → wide < 2 ^ 17 → b * wide + a ≤ 2 ^ 58
     row-fits h l =
         let c : a ≤ i = rw p (mod-le i x) in
         let d : b ≤ i = rw q (div-le-self i x) in
@@ -114,10 +114,10 @@ module _ (w x wide high i : ℕ) where
   at-none h l m = rw (ne-eqb w 2 h, eq-eqb w 1 l) (omega arith)
 
   -- every position is small enough for the code
-  pub position-small : i < 2 ^ 32 → x < 2 ^ 16 → wide < 2 ^ 16 → high < 2 ^ 16 → position w x wide high i ≤ 2 ^ 49
+  pub position-small : i < 2 ^ 40 → x < 2 ^ 32 → wide < 2 ^ 17 → high < 2 ^ 17 → position w x wide high i ≤ 2 ^ 58
   unfolding position
   position-small hi hx hw hh = by-walk (eqb w 2) (eqb w 1) refl refl where
-    by-walk : (c d : Bool) → eqb w 2 ≡ c → eqb w 1 ≡ d → position w x wide high i ≤ 2 ^ 49
+    by-walk : (c d : Bool) → eqb w 2 ≡ c → eqb w 1 ≡ d → position w x wide high i ≤ 2 ^ 58
     by-walk true d p q = rw p (column-fits (i % x) (i / x) refl refl hi hh)
     by-walk false true p q = rw (p, q) (omega arith)
     by-walk false false p q = rw (p, q) (row-fits (i % x) (i / x) refl refl hi hw)
@@ -125,10 +125,10 @@ module _ (w x wide high i : ℕ) where
 pub ruleset positions = (at-y-fastest, at-listed, at-last, at-none, needs)
 
 -- an element's bytes times its position
-pub place-fits : (k w a c d i at h : ℕ) → at ≡ position w a c d i → h ≡ shapeOf k .bytes → i < 2 ^ 32 → a < 2 ^ 16 → c < 2 ^ 16 → d < 2 ^ 16 → h * at ≤ 2 ^ 51
+pub place-fits : (k w a c d i at h : ℕ) → at ≡ position w a c d i → h ≡ shapeOf k .bytes → i < 2 ^ 40 → a < 2 ^ 32 → c < 2 ^ 17 → d < 2 ^ 17 → h * at ≤ 2 ^ 60
 place-fits k w a c d i at h pt ph hi ha hc hd =
     let l : h ≤ 4 = rw ph (bytes-le k) in
-    mul-le-mul {n₂ = 4} {m₂ = 2 ^ 49} l (rw pt (position-small w a c d i hi ha hc hd))
+    mul-le-mul {n₂ = 4} {m₂ = 2 ^ 58} l (rw pt (position-small w a c d i hi ha hc hd))
 
 pub place-is : (T : Tables) (g i : ℕ) (s : Storage) (r : ℕ) → s ≡ storageOf T g → r ≡ placeBy s i → r ≡ placeOf T g i
 unfolding placeOf
@@ -137,7 +137,17 @@ place-is T g i s r p q = rw (q, p)
 pub place-sum : (s : Storage) (i at h : ℕ) → at ≡ position (s .walk) (s .x) (s .wide) (s .high) i → h ≡ shapeOf (s .kind) .bytes → s .place + h * at ≡ placeBy s i
 place-sum s i at h p q = rw (p, q)
 
-pub ruleset stores = (stored-is, place-is, needs)
+pub stored-wide : (T : Tables) (g : ℕ) (s : Storage) → s ≡ storageOf T g → s .wide ≤ pastPoints
+stored-wide T g s p = rw p (omega arith)
+
+pub stored-high : (T : Tables) (g : ℕ) (s : Storage) → s ≡ storageOf T g → s .high ≤ pastPoints
+stored-high T g s p = rw p (omega arith)
+
+-- every index below 2^40 can be reached in every group
+pub stored-reachable : (T : Tables) (g i : ℕ) (s : Storage) → s ≡ storageOf T g → i < 2 ^ 40 → reachable s i
+stored-reachable T g i s p h = ((stored-wide T g s p, stored-high T g s p), h)
+
+pub ruleset stores = (stored-is, stored-wide, stored-high, place-is, needs)
 
 -- ---- methods
 

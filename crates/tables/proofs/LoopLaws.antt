@@ -14,10 +14,9 @@ use lib.ListN.{length, getD, List·getD-eq-default}
 use Rattle.records.specs.Cells.{sectionIn, countIn, slotIn}
 use Rattle.records.specs.declared.Section.{Section}
 use Rattle.records.proofs.OpLaws.{product}
-use Rattle.tables.specs.Form.{tableSections, objectSection, Tables, tablesIn}
-use Rattle.number.specs.Below.{sumBelow, allBelow}
-use Rattle.tables.specs.Group.{elements}
-use Rattle.tables.specs.Rule.{countFits, unusedZero, formRule, ruled, keepsRule}
+use Rattle.tables.specs.Form.{tableSections, pastPoints, objectSection, Tables, tablesIn}
+use Rattle.tables.specs.Group.{sumBelow, elements}
+use Rattle.tables.specs.Rule.{allBelow, countFits, unusedZero, formRule, ruled, keepsRule}
 use Rattle.tables.proofs.All.{all-none, all-more, all-fails, sum-none, sum-more, sum-most}
 use Rattle.tables.proofs.GroupLaws.{elements-most}
 
@@ -175,10 +174,10 @@ module _ (T : Tables) where
   pub sum-done : (n g c s : ℕ) → c ≡ n → c ≤ g → g ≤ c → s ≡ sumBelow g (elements T) → s ≡ sumBelow n (elements T)
   sum-done n g c s p h l q = let e : n ≡ g = omega arith in rw e q
 
-  pub sum-small : (g s e : ℕ) → s ≡ sumBelow g (elements T) → e ≡ elements T g → g < 65536 → s + e ≤ 2 ^ 45
+  pub sum-small : (g s e : ℕ) → s ≡ sumBelow g (elements T) → e ≡ elements T g → g < 65536 → s + e ≤ 2 ^ 50
   sum-small g s e p q h =
-      let a : s ≤ 16785409 * g = rw p (sum-most (elements T) 16785409 (elements-most T) g) in
-      let b : e ≤ 16785409 = rw q (elements-most T g) in
+      let a : s ≤ pastPoints * pastPoints * g = rw p (sum-most (elements T) (pastPoints * pastPoints) (elements-most T) g) in
+      let b : e ≤ pastPoints * pastPoints = rw q (elements-most T g) in
       omega arith
 
 pub ruleset sums = (sum-none, sum-on, sum-done, needs)

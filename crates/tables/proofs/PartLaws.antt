@@ -15,10 +15,9 @@ use Rattle.cell.proofs.Shapes.{bytes-le}
 use Rattle.convert.specs.Limit.{atMost}
 use Rattle.convert.specs.Method.{soundMethod}
 use Rattle.convert.specs.declared.method.Coefficients.{Coefficients}
-use Rattle.tables.specs.Form.{headSection, objectSection, groupSection, methodSection, tableSection, entrySection, Tables, total, kind, place, x, y, wide, high, walk, methodOf, mask, counter, counterPlace, limit, coefficients}
-use Rattle.number.specs.Below.{sumBelow, allBelow}
-use Rattle.tables.specs.Group.{elements, bytes}
-use Rattle.tables.specs.Rule.{isFraction, textRule, insideRule, wordRule, partsRule, objectRule, isNoPart, pointsRule, counterRule, axisRule, valuesRule, limitsRule, bytesRule, roleRule, partRule, groupRule, verbalRule, signsRule, fractionRule, methodRule, tableRule, entryRule, headRule, ruled}
+use Rattle.tables.specs.Form.{headSection, objectSection, groupSection, methodSection, tableSection, entrySection, Tables, pastPoints, total, kind, place, x, y, wide, high, walk, methodOf, mask, counter, counterPlace, limit, coefficients}
+use Rattle.tables.specs.Group.{sumBelow, elements, bytes}
+use Rattle.tables.specs.Rule.{allBelow, isFraction, isType, textRule, insideRule, wordRule, partsRule, objectRule, isNoPart, pointsRule, counterRule, axisRule, valuesRule, limitsRule, bytesRule, roleRule, partRule, groupRule, verbalRule, signsRule, fractionRule, methodRule, tableRule, entryRule, headRule, ruled}
 
 module _ (T : Tables) where
   pub object-is : (n i a b k : ℕ) (r s : Bool) → a ≡ T .slots objectSection i 0 → b ≡ T .slots objectSection i 1 → k ≡ T .slots objectSection i 2 → r ≡ textRule n a b → s ≡ partsRule T i k
@@ -127,15 +126,15 @@ module _ (T : Tables) where
   ruled-is n m h o g c a e e1 e2 e3 e4 e5 e6 = rw (e1, e2, e3, e4, e5, e6)
 
 -- the room of a part, and its bytes
-pub room-most : (T : Tables) (g a b : ℕ) → a ≡ wide T g → b ≡ high T g → a * b ≤ 16785409
+pub room-most : (T : Tables) (g a b : ℕ) → a ≡ wide T g → b ≡ high T g → a * b ≤ pastPoints * pastPoints
 room-most T g a b p q =
-    let c : a ≤ 4097 = rw p (omega arith) in
-    let d : b ≤ 4097 = rw q (omega arith) in
-    mul-le-mul {n₂ = 4097} {m₂ = 4097} c d
+    let c : a ≤ pastPoints = rw p (omega arith) in
+    let d : b ≤ pastPoints = rw q (omega arith) in
+    mul-le-mul {n₂ = pastPoints} {m₂ = pastPoints} c d
 
-pub bytes-most : (T : Tables) (g a b h : ℕ) → a ≡ wide T g → b ≡ high T g → h ≡ bytes T g → h * (a * b) ≤ 67141636
+pub bytes-most : (T : Tables) (g a b h : ℕ) → a ≡ wide T g → b ≡ high T g → h ≡ bytes T g → h * (a * b) ≤ 4 * (pastPoints * pastPoints)
 bytes-most T g a b h p q e =
     let c : h ≤ 4 = rw e (bytes-le (kind T g)) in
-    mul-le-mul {n₂ = 4} {m₂ = 16785409} c (room-most T g a b p q)
+    mul-le-mul {n₂ = 4} {m₂ = pastPoints * pastPoints} c (room-most T g a b p q)
 
 pub ruleset records = (object-is, none-is, points-are, counter-is, axis-is, values-are, limits-are, bytes-are, role-axis, role-values, part-is, group-none, group-part, verbal-is, signs-are, fraction-is, method-verbal, method-fraction, table-is, entry-is, head-is, ruled-is, needs)

@@ -15,9 +15,9 @@ pub text-is : (n from past : ℕ) → (leb from past && leb past n) ≡ textRule
 unfolding textRule
 text-is n from past = refl
 
-pub inside-is : (m at many : ℕ) → leb (at + many) m ≡ insideRule m at many
+pub inside-is : (m at many : ℕ) (b : Bool) → b ≡ leb (at + many) m → b ≡ insideRule m at many
 unfolding insideRule
-inside-is m at many = refl
+inside-is m at many b e = e
 
 module _ (a b m : ℕ) where
   pub sum-rest : a ≤ m → leb b (m - a) ≡ leb (a + b) m

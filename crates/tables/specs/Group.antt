@@ -1,10 +1,10 @@
 -- Groups and addressing: the elements of one part of an object, where each stands in the image, and its line in the list.
-use Prim.Native.Nat.{ℕ, zero, suc, _+_, _*_, _-_, _/_, _%_}
+use Prim.Native.Nat.{ℕ, zero, suc, _+_, _*_, _-_, _/_, _%_, _^_, _≤_, _<_}
 use mathlib.Core.Bool.{cond}
 use lib.Dec.{eqb}
 use Rattle.number.specs.Below.{sumBelow}
 use Rattle.cell.specs.Kind.{shapeOf}
-use Rattle.tables.specs.Form.{Tables, kind, place, x, y, wide, high, walk, mask, first}
+use Rattle.tables.specs.Form.{Tables, pastPoints, kind, place, x, y, wide, high, walk, mask, first}
 use Rattle.tables.specs.declared.group.Storage.{Storage}
 
 -- "Requests name an element by object number, part and index": the group of an object's part (x 0, y 1, v 2)
@@ -45,6 +45,14 @@ module _ (T : Tables) (g : ℕ) where
     walk = walk T g;
     mask = mask T g;
   }
+
+-- the room is one that a group has
+abbrev pub modest : Storage → Type 0
+modest s = (s .wide ≤ pastPoints) × (s .high ≤ pastPoints)
+
+-- so is the index: then no place grows too large
+abbrev pub reachable : Storage → ℕ → Type 0
+reachable s i = modest s × (i < 2 ^ 40)
 
 -- the place of element i's first byte, of what is stored so
 abbrev pub placeBy : Storage → ℕ → ℕ

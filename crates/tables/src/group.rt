@@ -5,14 +5,14 @@ use crate::form::slot_of;
 use cell::kind::shape_of;
 use number::decimal::Decimal;
 ghost use mathlib.Core.Path.{_≡_};
-ghost use Prim.Native.Nat.{_/_, _%_, min};
+ghost use Prim.Native.Nat.{_/_, _%_, _^_, _≤_, _<_, min};
 ghost use Rattle.number.specs.Told.{scaled};
 ghost use Rattle.cell.specs.Kind.{shapeOf};
 ghost use Rattle.tables.specs.Form.{tablesIn, pastPoints, pastImage, total, kind, first, place, x, y, wide, high, walk, methodOf, mask, forbidden, counter, counterPlace, limit};
-ghost use Rattle.tables.specs.Group.{position, elements, bytes, placeOf, storageOf, placeBy};
+ghost use Rattle.tables.specs.Group.{position, elements, bytes, placeOf, storageOf, reachable, placeBy};
 
 // One past "4,096 elements in all objects", and one past "1 MiB of image".
-const PAST_POINTS: u16 = 4097;
+const PAST_POINTS: u32 = 4097;
 
 const PAST_IMAGE: u32 = 1048577;
 
@@ -25,11 +25,11 @@ const LAST_FIRST: u64 = 1;
 const Y_FASTEST: u64 = 2;
 
 // A number of points, at most one past every capacity.
-fn points(n: u64) -> u16
+fn points(n: u64) -> u32
     ensures { λ r. ⌜ r ≡ min n pastPoints ⌝ }
 {
     if n < (PAST_POINTS as u64) {
-        n as u16
+        n as u32
     } else {
         PAST_POINTS
     }
@@ -82,28 +82,28 @@ pub fn start_of(t: &[u64], g: u16) -> u32
 }
 
 // A group's points in x.
-pub fn x_of(t: &[u64], g: u16) -> u16
+pub fn x_of(t: &[u64], g: u16) -> u32
     ensures { λ r. ⌜ r ≡ x (tablesIn (now (t .entry))) g ⌝ }
 {
     points(slot_of(t, GROUP, g, 3))
 }
 
 // A group's points in y.
-pub fn y_of(t: &[u64], g: u16) -> u16
+pub fn y_of(t: &[u64], g: u16) -> u32
     ensures { λ r. ⌜ r ≡ y (tablesIn (now (t .entry))) g ⌝ }
 {
     points(slot_of(t, GROUP, g, 4))
 }
 
 // A group's room in x.
-pub fn wide_of(t: &[u64], g: u16) -> u16
+pub fn wide_of(t: &[u64], g: u16) -> u32
     ensures { λ r. ⌜ r ≡ wide (tablesIn (now (t .entry))) g ⌝ }
 {
     points(slot_of(t, GROUP, g, 5))
 }
 
 // A group's room in y.
-pub fn high_of(t: &[u64], g: u16) -> u16
+pub fn high_of(t: &[u64], g: u16) -> u32
     ensures { λ r. ⌜ r ≡ high (tablesIn (now (t .entry))) g ⌝ }
 {
     points(slot_of(t, GROUP, g, 6))
@@ -173,10 +173,10 @@ pub fn limit_of(t: &[u64], g: u16, k: u16) -> Decimal
 }
 
 // How many elements a group has.
-pub fn elements_of(t: &[u64], g: u16) -> u32
+pub fn elements_of(t: &[u64], g: u16) -> u64
     ensures { λ r. ⌜ r ≡ elements (tablesIn (now (t .entry))) g ⌝ }
 {
-    (x_of(t, g) as u32) * (y_of(t, g) as u32)
+    (x_of(t, g) as u64) * (y_of(t, g) as u64)
 }
 
 // How many bytes a data type has.
@@ -195,27 +195,28 @@ pub fn bytes_of(t: &[u64], g: u16) -> u32
 }
 
 // The y point of an index; 0 in a part without points.
-fn y_point(i: u32, x: u16) -> u64
+fn y_point(i: u64, x: u32) -> u64
     ensures { λ r. ⌜ r ≡ i / x ⌝ }
 {
     if x == 0 {
         return 0;
     }
-    (i as u64) / (x as u64)
+    i / (x as u64)
 }
 
 // The x point of an index; the index itself in a part without points.
-fn x_point(i: u32, x: u16) -> u64
+fn x_point(i: u64, x: u32) -> u64
     ensures { λ r. ⌜ r ≡ i % x ⌝ }
 {
     if x == 0 {
-        return i as u64;
+        return i;
     }
-    (i as u64) % (x as u64)
+    i % (x as u64)
 }
 
 // Where the index of a listing stands among the stored elements.
-fn position_of(walk: u64, x: u16, wide: u16, high: u16, i: u32) -> u64
+fn position_of(walk: u64, x: u32, wide: u32, high: u32, i: u64) -> u64
+    requires { ⌜ (wide ≤ pastPoints) × (high ≤ pastPoints) × (i < 2 ^ 40) ⌝ }
     ensures { λ r. ⌜ r ≡ position walk x wide high i ⌝ }
 {
     let a = x_point(i, x);
@@ -224,8 +225,8 @@ fn position_of(walk: u64, x: u16, wide: u16, high: u16, i: u32) -> u64
         return a * (high as u64) + b;
     }
     if walk == LAST_FIRST {
-        if i < (x as u32) {
-            return ((x as u32) - 1 - i) as u64;
+        if i < (x as u64) {
+            return (x as u64) - 1 - i;
         }
         return 0;
     }
@@ -237,10 +238,10 @@ pub struct Storage {
     pub kind: u64,
     pub first: bool,
     pub place: u32,
-    pub x: u16,
-    pub y: u16,
-    pub wide: u16,
-    pub high: u16,
+    pub x: u32,
+    pub y: u32,
+    pub wide: u32,
+    pub high: u32,
     pub walk: u64,
     pub mask: u64,
 }
@@ -263,7 +264,8 @@ pub fn storage_of(t: &[u64], g: u16) -> Storage
 }
 
 // The place of the first byte of element i of what is stored so.
-pub fn place_by(s: Storage, i: u32) -> u64
+pub fn place_by(s: Storage, i: u64) -> u64
+    requires { ⌜ reachable s i ⌝ }
     ensures { λ r. ⌜ r ≡ placeBy s i ⌝ }
 {
     let at = position_of(s.walk, s.x, s.wide, s.high, i);
@@ -274,5 +276,5 @@ pub fn place_by(s: Storage, i: u32) -> u64
 pub fn place_of(t: &[u64], g: u16, i: u32) -> u64
     ensures { λ r. ⌜ r ≡ placeOf (tablesIn (now (t .entry))) g i ⌝ }
 {
-    place_by(storage_of(t, g), i)
+    place_by(storage_of(t, g), i as u64)
 }

@@ -21,5 +21,4 @@ lines-before-spec =
     (λ c. search counteds)
     (λ c. search counteds)
     (λ c. search counteds)
-    (λ c. search counteds)
     (λ c. search counteds))

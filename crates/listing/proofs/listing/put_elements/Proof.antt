@@ -21,14 +21,20 @@ ahead c h =
     let s = c .before .before .before .before .before .before .before .before .args in
     upto-left (s .x .now) (s .t .now) (columns (s .raw .now) (s .state .now) (s .first .now) (s .second .now)) (c .elements-of .result) (omega arith) (c .elements-of .ensures) h (c .before .before .loop .inv)
 
-add-k : tie.Need-add-k Inv-loop μ-loop
-add-k c =
-    let b = c .before .before .before .before .before in
-    let s = b .before .before .before .before .before .before .before .before in
-    let h = ahead b (omega arith) in
-    let n : b .before .before .before .count-of .result ≡ tablesIn (s .args .t .now) .counts groupSection = b .before .before .before .count-of .ensures in
+-- and there are few lines
+few : (c : tie.After-elements-of Inv-loop μ-loop) → c .before .before .loop .i < c .elements-of .result → c .before .before .loop .k < 4096
+few c l =
+    let s = c .before .before .before .before .before .before .before .before in
+    let h = ahead c l in
+    let n : c .before .before .before .count-of .result ≡ tablesIn (s .args .t .now) .counts groupSection = c .before .before .before .count-of .ensures in
     let m = s .pre .2 in
     omega (arith, ap (λ (j : ℕ). sumBelow j (elements (tablesIn (s .args .t .now)))) n)
+
+add-i : tie.Need-add-i Inv-loop μ-loop
+add-i c = let b = c .before .before .before .before .before in let h = few b (omega arith) in omega (arith, b .before .before .loop .inv .lines)
+
+add-k : tie.Need-add-k Inv-loop μ-loop
+add-k c = let h = few (c .before .before .before .before .before) (omega arith) in omega arith
 
 loop-less : tie.Need-loop-less Inv-loop μ-loop
 loop-less c = let h = ahead (c .before .before .before .before .before) (omega arith) in omega arith
@@ -48,9 +54,10 @@ put-elements-spec =
     μ-loop
     (λ c κs. search uptos)
     (λ c. search uptos)
-    (λ c κs. search uptos)
-    (λ c κs. search uptos)
     (λ c. search uptos)
+    (λ c κs. search uptos)
+    (λ c κs. search uptos)
+    add-i
     add-k
     loop-less
     loop-again

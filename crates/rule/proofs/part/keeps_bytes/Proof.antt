@@ -26,6 +26,9 @@ start-of-requires c κs = search records
 bytes-of-requires : tie.Need-bytes-of-requires
 bytes-of-requires c κs = search records
 
+cast-is-inside : tie.Need-cast-is-inside
+cast-is-inside c = search records
+
 mul-is-inside : tie.Need-mul-is-inside
 mul-is-inside c = omega (arith, bytes-most (tablesIn (now (c .before .before .before .before .before .args .t))) (c .before .before .before .before .before .args .g) (c .before .before .before .wide-of .result) (c .before .before .high-of .result) (c .bytes-of .result) (c .before .before .before .wide-of .ensures) (c .before .before .high-of .ensures) (c .bytes-of .ensures))
 
@@ -46,6 +49,7 @@ keeps-bytes-spec =
     mul-room
     start-of-requires
     bytes-of-requires
+    cast-is-inside
     mul-is-inside
     is-inside-requires
     returns)

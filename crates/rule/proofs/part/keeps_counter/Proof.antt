@@ -10,6 +10,7 @@ keeps-counter-spec =
     (λ c κs. search records)
     (λ c κs. search records)
     (λ c κs. search records)
+    (λ c. search records)
     (λ c κs. search records)
     (λ c κs. search records)
     (λ c. search records))

@@ -25,9 +25,6 @@ loop-holds c = search sums
 elements-of-requires : tie.Need-elements-of-requires Inv-loop μ-loop
 elements-of-requires c κs = search sums
 
-cast-sum : tie.Need-cast-sum Inv-loop μ-loop
-cast-sum c = search sums
-
 add-sum : tie.Need-add-sum Inv-loop μ-loop
 add-sum c = omega (arith, sum-small (tablesIn (now (c .before .before .before .before .before .args .t))) (c .before .before .loop .g) (c .before .before .loop .sum) (c .elements-of .result) (c .before .before .loop .inv .1) (c .elements-of .ensures) (search needs))
 
@@ -52,7 +49,6 @@ sum-of-spec =
     count-of-requires
     loop-holds
     elements-of-requires
-    cast-sum
     add-sum
     add-g
     loop-less

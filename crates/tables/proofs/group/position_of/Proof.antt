@@ -25,9 +25,6 @@ sub-result c = search needs
 sub-result-2 : tie.Need-sub-result-2
 sub-result-2 c = search needs
 
-cast-result : tie.Need-cast-result
-cast-result c = search needs
-
 returns-2 : tie.Need-returns-2
 returns-2 c = search positions
 
@@ -54,7 +51,6 @@ position-of-spec =
     returns
     sub-result
     sub-result-2
-    cast-result
     returns-2
     returns-3
     mul-result-2

@@ -11,6 +11,7 @@ use borrow.Author.Tests.{ltb-true, ltb-false}
 use lib.Dec.{ltb, eqb}
 use lib.ListN.{length, getD, replicate, length-append, List·getD-append}
 use lib.Seq.{getD-append-add}
+use Rattle.number.specs.Most.{mostObjects, mostMethods, mostTables, mostEntries, mostGroups}
 use Rattle.records.specs.Records.{recordsOf, count, slot, widthOf, mostOf, empty}
 use Rattle.records.specs.Cells.{room, encode, sectionIn, countIn}
 use Rattle.records.proofs.Encode.{Good, Wide, fit-few, none-good, none-encode}
@@ -111,10 +112,10 @@ module _ (image : List ℕ) (base : ℕ) (x : List ℕ) (v : View) where
 
 -- the records that were read are within the capacities
 pub record Within (v : View) : Type 0 where
-  pub objects : v .counts records.object ≤ 512
-  pub methods : v .counts records.method ≤ 128
-  pub tables : v .counts records.table ≤ 128
-  pub entries : v .counts records.entry ≤ 1024
+  pub objects : v .counts records.object ≤ mostObjects
+  pub methods : v .counts records.method ≤ mostMethods
+  pub tables : v .counts records.table ≤ mostTables
+  pub entries : v .counts records.entry ≤ mostEntries
 
 pub within-in : (t : List ℕ) → Within (viewIn t)
 unfolding countIn records.sections
@@ -164,19 +165,19 @@ module _ (image : List ℕ) (base : ℕ) (x : List ℕ) (v : View) (e : ℕ) (w 
   wide-entries : Wide 4 entryRows
   wide-entries = rows-wide 4 (entryRow v) (λ i. refl) (v .counts records.entry)
 
-  few-objects : length objectRows ≤ 512
+  few-objects : length objectRows ≤ mostObjects
   few-objects = omega (arith, w .objects, rows-long (v .counts records.object) (objectRow v))
 
-  few-groups : length groupRows ≤ 1536
+  few-groups : length groupRows ≤ mostGroups
   few-groups = omega (arith, w .objects, groups-long image base x v (v .counts records.object))
 
-  few-methods : length methodRows ≤ 128
+  few-methods : length methodRows ≤ mostMethods
   few-methods = omega (arith, w .methods, rows-long (v .counts records.method) (methodRow x v))
 
-  few-tables : length tableRows ≤ 128
+  few-tables : length tableRows ≤ mostTables
   few-tables = omega (arith, w .tables, rows-long (v .counts records.table) (tableRow v))
 
-  few-entries : length entryRows ≤ 1024
+  few-entries : length entryRows ≤ mostEntries
   few-entries = omega (arith, w .entries, rows-long (v .counts records.entry) (entryRow v))
 
   pub built-good : Good tableSections (built image base x v e)

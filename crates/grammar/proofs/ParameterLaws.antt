@@ -23,6 +23,7 @@ use Rattle.words.specs.Told.{toldClass}
 use Rattle.words.specs.declared.class.Class.{Class}
 use Rattle.words.specs.declared.class.Class.the-variants as class
 use Rattle.number.specs.declared.decimal.Decimal.{Decimal}
+use Rattle.number.specs.Most.{mostEntries}
 use Rattle.convert.specs.Limit.{atMost}
 use Rattle.records.specs.Records.{mostOf}
 use Rattle.records.specs.Cells.{sectionIn, countIn}
@@ -132,7 +133,7 @@ module _ (v : View) (sign size : ℕ) where
 
 pub ruleset havings = (having-start, having-none, having-found, having-on, needs)
 
-most-entries : mostOf sections entry ≡ 1024
+most-entries : mostOf sections entry ≡ mostEntries
 unfolding sections
 most-entries = refl
 
@@ -148,13 +149,13 @@ module _ (v : View) (s : State) (a e : ℕ) (d : Decimal) where
     entry-twice h = rw (eq-eqb (d .tens) 0 t, ← ps, ← pb, h)
 
     module _ (f : b ≡ false) (n : ℕ) (pn : n ≡ v .counts entry) where
-      pub entry-full : 1024 ≤ n → refused 8 a ≡ takenEntry v s a e (scaled d)
+      pub entry-full : mostEntries ≤ n → refused 8 a ≡ takenEntry v s a e (scaled d)
       unfolding takenEntry
-      entry-full h = rw (eq-eqb (d .tens) 0 t, ← ps, ← pb, f, most-entries, ← pn, le-leb 1024 n h)
+      entry-full h = rw (eq-eqb (d .tens) 0 t, ← ps, ← pb, f, most-entries, ← pn, le-leb mostEntries n h)
 
-      pub entry-made : (m : code.Move) (st : State) (act : Act) → n < 1024 → moved m ≡ went e st act → st ≡ after s → act ≡ newRecord entry 2 sign (d .whole) 0 0 → moved m ≡ takenEntry v s a e (scaled d)
+      pub entry-made : (m : code.Move) (st : State) (act : Act) → n < mostEntries → moved m ≡ went e st act → st ≡ after s → act ≡ newRecord entry 2 sign (d .whole) 0 0 → moved m ≡ takenEntry v s a e (scaled d)
       unfolding takenEntry
-      entry-made m st act h p x y = rw (eq-eqb (d .tens) 0 t, ← ps, ← pb, f, most-entries, ← pn, lt-leb 1024 n h, p, x, y)
+      entry-made m st act h p x y = rw (eq-eqb (d .tens) 0 t, ← ps, ← pb, f, most-entries, ← pn, lt-leb mostEntries n h, p, x, y)
 
 pub ruleset entries = (entry-broken, entry-twice, entry-full, entry-made, via, needs)
 

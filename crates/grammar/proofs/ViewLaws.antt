@@ -2,6 +2,7 @@
 use Prim.Native.Nat.{ℕ, zero, suc, _+_, _-_, _≤_, _<_, min}
 use lib.Dec.{eqb}
 use Rattle.number.specs.Decimal.{Scaled}
+use Rattle.number.specs.Most.{mostObjects, mostMethods, mostTables, mostLayouts, mostEntries, mostAxes}
 use mathlib.Core.Path.{_≡_, refl, sym, _∙_, ap, subst}
 use mathlib.Core.List.{List, [], _∷_, _++_}
 use mathlib.Core.Bool.{and-false}
@@ -41,27 +42,27 @@ module _ (j : ℕ) (r : Section) where
   unfolding sections
   section-0 p = numbered j 0 r p
 
-  pub section-1 : r ≡ sec 12 28 128 → j ≡ 1 → r ≡ sectionIn sections j
+  pub section-1 : r ≡ sec 12 28 mostMethods → j ≡ 1 → r ≡ sectionIn sections j
   unfolding sections
   section-1 p = numbered j 1 r p
 
-  pub section-2 : r ≡ sec 3597 9 128 → j ≡ 2 → r ≡ sectionIn sections j
+  pub section-2 : r ≡ sec 3597 9 mostTables → j ≡ 2 → r ≡ sectionIn sections j
   unfolding sections
   section-2 p = numbered j 2 r p
 
-  pub section-3 : r ≡ sec 4750 4 1024 → j ≡ 3 → r ≡ sectionIn sections j
+  pub section-3 : r ≡ sec 4750 4 mostEntries → j ≡ 3 → r ≡ sectionIn sections j
   unfolding sections
   section-3 p = numbered j 3 r p
 
-  pub section-4 : r ≡ sec 8847 31 64 → j ≡ 4 → r ≡ sectionIn sections j
+  pub section-4 : r ≡ sec 8847 31 mostLayouts → j ≡ 4 → r ≡ sectionIn sections j
   unfolding sections
   section-4 p = numbered j 4 r p
 
-  pub section-5 : r ≡ sec 10832 28 512 → j ≡ 5 → r ≡ sectionIn sections j
+  pub section-5 : r ≡ sec 10832 28 mostObjects → j ≡ 5 → r ≡ sectionIn sections j
   unfolding sections
   section-5 p = numbered j 5 r p
 
-  pub section-6 : r ≡ sec 25169 17 1024 → j ≡ 6 → r ≡ sectionIn sections j
+  pub section-6 : r ≡ sec 25169 17 mostAxes → j ≡ 6 → r ≡ sectionIn sections j
   unfolding sections
   section-6 p = numbered j 6 r p
 

@@ -9,6 +9,7 @@ use borrow.Author.Tests.{eqb-true, eq-eqb}
 use lib.Dec.{eqb}
 use Rattle.text.proofs.Within.{by-test}
 use Rattle.number.specs.Answer.{Answer, given, refused}
+use Rattle.number.specs.Most.{mostAxes}
 use Rattle.records.specs.Records.{count, slot}
 use Rattle.records.proofs.Encode.{fit-few}
 use Rattle.rows.specs.Codes.{AXIS-PTS, CHARACTERISTIC, VAL-BLK, CURVE, MAP, COM-AXIS}
@@ -98,7 +99,7 @@ module _ (image : List ℕ) (base : ℕ) (x : List ℕ) (d : List (List (List �
   axis-below : (i n : ℕ) → slot d object i 3 ≡ CHARACTERISTIC → n < axesOf (slot d object i 4) → axisAt (view d) i n < count d axis
   unfolding sections
   axis-below i n e h =
-      let m : count d axis ≤ 1024 = fit-few sections d axis (k .good) in
+      let m : count d axis ≤ mostAxes = fit-few sections d axis (k .good) in
       omega (arith, p .axes i e)
 
   module _ (i : ℕ) (e : slot d object i 3 ≡ CHARACTERISTIC) where

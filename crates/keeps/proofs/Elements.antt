@@ -5,6 +5,7 @@ use mathlib.Core.List.{List}
 use mathlib.Core.Bool.{true}
 use native.Mathlib.Omega.{arith}
 use lib.ListN.{length, getD}
+use Rattle.number.specs.Most.{mostPoints}
 use Rattle.records.specs.Records.{count}
 use Rattle.records.specs.Cells.{room, encode}
 use Rattle.rows.specs.Sections as records
@@ -31,8 +32,8 @@ record Placed (T : Tables) (g base m k at cx cy : ℕ) : Type 0 where
   at-is : T .slots groupSection g 2 ≡ at - base
   cx-is : T .slots groupSection g 3 ≡ cx
   cy-is : T .slots groupSection g 4 ≡ cy
-  few-x : cx ≤ 4096
-  few-y : cy ≤ 4096
+  few-x : cx ≤ mostPoints
+  few-y : cy ≤ mostPoints
   above : base ≤ at
   fits : at - base ≤ m
 

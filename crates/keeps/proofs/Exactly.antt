@@ -14,6 +14,7 @@ use Rattle.text.specs.Answer.{Answer, given, refused, with}
 use Rattle.text.proofs.Within.{by-test, and-left, and-right}
 use Rattle.number.specs.Answer as number
 use Rattle.number.specs.Form.{isGiven}
+use Rattle.number.specs.Most.{mostObjects, mostElements}
 use Rattle.records.specs.Records.{count, slot}
 use Rattle.rows.specs.Sections.{method, object, axis}
 use Rattle.grammar.specs.Move.{View, view}
@@ -186,13 +187,13 @@ module _ (image : List ℕ) (base : ℕ) (x : List ℕ) (v : View) where
   abbrev total : ℕ
   total = sumBelow (v .counts object) (elementsOf image base x v)
 
-  module _ (i used : ℕ) (f : Fits i) (l : used + elementsOf image base x v i ≤ 4096) where
+  module _ (i used : ℕ) (f : Fits i) (l : used + elementsOf image base x v i ≤ mostElements) where
     after-given : (a : number.Answer Reached) → placement (groundOf x v base i) (needOf image base x v i) image (layoutOf x v i) ≡ a → isGiven a ≡ true
         → after image (groundOf x v base i) (needOf image base x v i) (layoutOf x v i) used a ≡ number.given (record { places = placesOf image base x v i; total = used + elementsOf image base x v i })
     unfolding weighed groundOf elementsOf placesOf
     after-given (number.given r) e g =
         let p : placesOf image base x v i ≡ r .places = ap placesIn e in
-        let a : leb (used + elementsStored (needOf image base x v i) (r .places)) 4096 ≡ true = rw (← p) (le-leb (used + elementsOf image base x v i) 4096 l) in
+        let a : leb (used + elementsStored (needOf image base x v i) (r .places)) mostElements ≡ true = rw (← p) (le-leb (used + elementsOf image base x v i) mostElements l) in
         let b : allInside image base (needOf image base x v i) (layoutOf x v i) (r .places) ≡ true = rw (← p) (f .inside) in
         rw (a, b, ← p)
     after-given (number.refused k) e g = absurd (false≢true g)
@@ -212,7 +213,7 @@ module _ (image : List ℕ) (base : ℕ) (x : List ℕ) (v : View) where
     pub value : ℕ
     pub is : a ≡ given value
 
-  module _ (all : (i : ℕ) → i < v .counts object → Fits i) (most : total ≤ 4096) where
+  module _ (all : (i : ℕ) → i < v .counts object → Fits i) (most : total ≤ mostElements) where
     -- object j's turn and then those of js; ih is what is known of those
     turn-gives : (j : ℕ) (js seen : List ℕ) (used : ℕ) → v .counts object ≤ length seen → j < v .counts object → used ≡ sumOf image base x v seen
         → ((u : ℕ) → v .counts object ≤ length (marked seen j) → u ≡ sumOf image base x v (marked seen j) → Gives (judgeEach image base x v (marked seen j) js u))
@@ -224,7 +225,7 @@ module _ (image : List ℕ) (base : ℕ) (x : List ℕ) (v : View) where
           → Gives (with (cond b (stage.totalOr (v .slots object j 0) (judgeObject image base x v j used)) (given used)) (judgeEach image base x v (cond b (set seen j 1) seen) js))
       by true t k =
           let s : sumOf image base x v (set seen j 1) ≡ sumOf image base x v seen + elementsOf image base x v j = sum-marked image base x v seen j (omega arith) h t in
-          let m : used + elementsOf image base x v j ≤ 4096 = omega (arith, sum-within (set seen j 1)) in
+          let m : used + elementsOf image base x v j ≤ mostElements = omega (arith, sum-within (set seen j 1)) in
           rw (judge-given j used (all j h) m) (k (used + elementsOf image base x v j) (rw (length-set seen j 1) l) (omega arith))
       by false t k = k used l e
 
@@ -233,14 +234,14 @@ module _ (image : List ℕ) (base : ℕ) (x : List ℕ) (v : View) where
     each-gives [] seen used l b e = record { value = used; is = refl }
     each-gives (j ∷ js) seen used l b e = turn-gives j js seen used l (b j (inl refl)) e (λ u m s. each-gives js (marked seen j) u m (λ i o. b i (inr o)) s)
 
-    all-gives : v .counts object ≤ 512 → Gives (judgeAll image base x v)
+    all-gives : v .counts object ≤ mostObjects → Gives (judgeAll image base x v)
     unfolding judgeAll
     all-gives few =
-        let l : length {A = ℕ} (replicate 512 0) ≡ 512 = length-replicate {A = ℕ} 512 0 in
-        each-gives (turnsFrom (v .counts object) x v 0) (replicate 512 0) 0 (omega arith) (λ j m. turns-below image base x v (v .counts object) 0 j (omega arith) m) (sym (sum-none image base x v 512 (v .counts object)))
+        let l : length {A = ℕ} (replicate mostObjects 0) ≡ mostObjects = length-replicate {A = ℕ} mostObjects 0 in
+        each-gives (turnsFrom (v .counts object) x v 0) (replicate mostObjects 0) 0 (omega arith) (λ j m. turns-below image base x v (v .counts object) 0 j (omega arith) m) (sym (sum-none image base x v mostObjects (v .counts object)))
 
     -- all objects are accepted, and have so many elements
-    pub judge-all-given : v .counts object ≤ 512 → judgeAll image base x v ≡ given total
+    pub judge-all-given : v .counts object ≤ mostObjects → judgeAll image base x v ≡ given total
     judge-all-given few =
         let g : Gives (judgeAll image base x v) = all-gives few in
         g .is ∙ ap given (total-is image base x v few (g .value) (g .is))
@@ -259,7 +260,7 @@ went (refused k p) f b h = let z : _≡_ {A = ℕ} 0 1 = cc in absurd (omega ari
 
 module _ (image : List ℕ) (base : ℕ) (x : List ℕ) where
   module _ (d : List (List (List ℕ))) (r : read x ≡ given d) where
-    few : count d object ≤ 512
+    few : count d object ≤ mostObjects
     few = within-of d (read-keeps x d r .good) .objects
 
     -- the rules of all stages hold

@@ -12,7 +12,8 @@ use lib.ListN.{length, getD}
 use Rattle.number.specs.Decimal.{Scaled}
 use Rattle.text.specs.Bytes.{spells}
 use Rattle.text.proofs.Within.{and-left, and-right, by-test}
-use Rattle.cell.specs.Kind.{shapeOf, shapes, isType}
+use Rattle.number.specs.Most.{mostElements, mostPoints}
+use Rattle.cell.specs.Kind.{shapeOf, shapes}
 use Rattle.cell.specs.Mask.{maskRule}
 use Rattle.convert.specs.Limit.{atMost}
 use Rattle.records.specs.Records.{count, slot}
@@ -187,7 +188,7 @@ unfolding maskFits maskOf
 mask-fine x v i h = mask-turn (eqb (v .slots records.object i 21) 0) (maskRule (shapeOf (layoutOf x v i .values .kind)) (v .slots records.object i 22)) (layoutOf x v i .values .kind) (v .slots records.object i 22) refl h
 
 -- the values are a share of the elements
-share-few : (a b : ℕ) (t : Bool) (c : ℕ) → t ≡ true → a + b + cond t c 0 ≤ 4096 → c ≤ 4096
+share-few : (a b : ℕ) (t : Bool) (c : ℕ) → t ≡ true → a + b + cond t c 0 ≤ mostElements → c ≤ mostElements
 share-few a b true c e h = omega arith
 share-few a b false c e h = absurd (false≢true e)
 
@@ -273,19 +274,19 @@ module _ (image : List ℕ) (base : ℕ) (x : List ℕ) (d : List (List (List �
       turn false e h₀ = let h = rw e at h₀ in record { keeps = none-keeps T (i * 3 + 1) (length image) h; stored-is = none-stored T (i * 3 + 1) (length image) h; many-is = none-elements T (i * 3 + 1) (length image) h }
 
     -- values have at most 4,096 points in x and in y
-    pub few-points : needOf image base x (view d) i .values ≡ true → (placesOf image base x (view d) i .cx ≤ 4096) × (placesOf image base x (view d) i .cy ≤ 4096)
+    pub few-points : needOf image base x (view d) i .values ≡ true → (placesOf image base x (view d) i .cx ≤ mostPoints) × (placesOf image base x (view d) i .cy ≤ mostPoints)
     unfolding elementsOf elementsStored
     few-points e = by-row (need-modest image base x (view d) i .row) where
       elements-few : cond (needOf image base x (view d) i .x .stored) (placesOf image base x (view d) i .cx) 0 + cond (needOf image base x (view d) i .y .stored) (placesOf image base x (view d) i .cy) 0
-          + cond (needOf image base x (view d) i .values) (placesOf image base x (view d) i .cx * placesOf image base x (view d) i .cy) 0 ≤ 4096
+          + cond (needOf image base x (view d) i .values) (placesOf image base x (view d) i .cx * placesOf image base x (view d) i .cy) 0 ≤ mostElements
       elements-few = s .few
 
-      all-few : placesOf image base x (view d) i .cx * placesOf image base x (view d) i .cy ≤ 4096
+      all-few : placesOf image base x (view d) i .cx * placesOf image base x (view d) i .cy ≤ mostElements
       all-few = share-few (cond (needOf image base x (view d) i .x .stored) (placesOf image base x (view d) i .cx) 0) (cond (needOf image base x (view d) i .y .stored) (placesOf image base x (view d) i .cy) 0) (needOf image base x (view d) i .values)
           (placesOf image base x (view d) i .cx * placesOf image base x (view d) i .cy) e elements-few
 
       by-row : (needOf image base x (view d) i .y ≡ noAxis) ⊎ ((needOf image base x (view d) i .x .most ≤ 256) × (needOf image base x (view d) i .y .most ≤ 256))
-          → (placesOf image base x (view d) i .cx ≤ 4096) × (placesOf image base x (view d) i .cy ≤ 4096)
+          → (placesOf image base x (view d) i .cx ≤ mostPoints) × (placesOf image base x (view d) i .cy ≤ mostPoints)
       by-row (inl q) =
           let o : 1 ≤ placesOf image base x (view d) i .cy = s .some-y (one-point (needOf image base x (view d) i .y) q) in
           let p : placesOf image base x (view d) i .cx * 1 ≤ placesOf image base x (view d) i .cx * placesOf image base x (view d) i .cy = mul-le-mul-left (placesOf image base x (view d) i .cx) o in

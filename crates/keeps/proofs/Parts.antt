@@ -9,7 +9,8 @@ use borrow.Author.Tests.{le-leb, eq-eqb, ne-eqb, lt-ltb, le-ltb, leb-true}
 use lib.Dec.{eqb, leb}
 use lib.ListN.{getD, replicate}
 use Rattle.number.specs.Decimal.{Scaled}
-use Rattle.cell.specs.Kind.{shapeOf, isType}
+use Rattle.number.specs.Most.{mostPoints}
+use Rattle.cell.specs.Kind.{shapeOf}
 use Rattle.cell.specs.Mask.{maskRule}
 use Rattle.convert.specs.Limit.{atMost}
 use Rattle.tables.specs.Form.{groupSection, methodSection, Tables, kind, place, x, y, wide, high, walk, methodOf, mask, counter, counterPlace, limit}
@@ -53,31 +54,31 @@ module _ (T : Tables) (g m : ℕ) where
       pub type : isType k ≡ true
       pub order : o ≤ 1
       pub some-x : 1 ≤ cx
-      pub few-x : cx ≤ 4096
+      pub few-x : cx ≤ mostPoints
       pub some-y : 1 ≤ cy
-      pub few-y : cy ≤ 4096
+      pub few-y : cy ≤ mostPoints
       pub bytes-in : p + shapeOf k .bytes * (cx * cy) ≤ m
       pub role : roleRule T g m ≡ true
       pub its-method : q ≤ T .counts methodSection
       pub only : f ≤ 1
       pub limits : limitsRule T g ≡ true
 
-    pub x-is : cx ≤ 4096 → x T g ≡ cx
+    pub x-is : cx ≤ mostPoints → x T g ≡ cx
     x-is l = omega (arith, h 3)
 
-    pub y-is : cy ≤ 4096 → y T g ≡ cy
+    pub y-is : cy ≤ mostPoints → y T g ≡ cy
     y-is l = omega (arith, h 4)
 
-    pub part-elements : cx ≤ 4096 → cy ≤ 4096 → elements T g ≡ cx * cy
+    pub part-elements : cx ≤ mostPoints → cy ≤ mostPoints → elements T g ≡ cx * cy
     part-elements l n = rw (x-is l, y-is n)
 
-    points-kept : 1 ≤ cx → cx ≤ 4096 → 1 ≤ cy → cy ≤ 4096 → pointsRule T g ≡ true
+    points-kept : 1 ≤ cx → cx ≤ mostPoints → 1 ≤ cy → cy ≤ mostPoints → pointsRule T g ≡ true
     unfolding pointsRule
     points-kept ox l oy n =
-        and (and (and (and (and (le-leb 1 (x T g) (omega (arith, h 3))) (le-leb (x T g) 4096 (omega (arith, h 3)))) (le-leb 1 (y T g) (omega (arith, h 4)))) (le-leb (y T g) 4096 (omega (arith, h 4))))
+        and (and (and (and (and (le-leb 1 (x T g) (omega (arith, h 3))) (le-leb (x T g) mostPoints (omega (arith, h 3)))) (le-leb 1 (y T g) (omega (arith, h 4)))) (le-leb (y T g) mostPoints (omega (arith, h 4))))
         (eq-eqb (wide T g) (x T g) (omega (arith, h 3, h 5)))) (eq-eqb (high T g) (y T g) (omega (arith, h 4, h 6)))
 
-    bytes-kept : cx ≤ 4096 → cy ≤ 4096 → p + shapeOf k .bytes * (cx * cy) ≤ m → bytesRule T g m ≡ true
+    bytes-kept : cx ≤ mostPoints → cy ≤ mostPoints → p + shapeOf k .bytes * (cx * cy) ≤ m → bytesRule T g m ≡ true
     unfolding bytesRule insideRule
     bytes-kept l n i =
         let u : wide T g ≡ cx = omega (arith, h 5) in

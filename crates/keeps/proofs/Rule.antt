@@ -12,6 +12,7 @@ use lib.Dec.{leb}
 use lib.ListN.{length}
 use Rattle.text.specs.Answer.{Answer, given, refused}
 use Rattle.text.proofs.Within.{by-test, and-left, and-right}
+use Rattle.number.specs.Most.{mostElements}
 use Rattle.records.specs.Records.{count}
 use Rattle.records.specs.Cells.{room, encode}
 use Rattle.rows.specs.Sections as records
@@ -87,7 +88,7 @@ module _ (image : List ℕ) (base : ℕ) (x : List ℕ) (d : List (List (List �
         let c : sumBelow (T .counts groupSection) (elements T) ≡ n = ap (λ m. sumBelow m (elements T)) (count-groups image base x (view d) n w) ∙ sym total-sum in
         let o : T .counts groupSection ≡ T .counts objectSection * 3 = count-groups image base x (view d) n w ∙ ap (λ m. m * 3) (sym (count-objects image base x (view d) n w)) in
         and (and (and (and (and (eq-eqb (T .counts headSection) 1 (count-head image base x (view d) n w)) (eq-eqb (T .slots headSection 0 0) 0 (e 0))) (eq-eqb (T .slots headSection 0 1) 0 (e 1)))
-        (eq-eqb (total T) (sumBelow (T .counts groupSection) (elements T)) (e 2 ∙ sym c))) (le-leb (total T) 4096 (omega (arith, e 2, total-most image base x (view d) (w .objects) n j)))) (eq-eqb (T .counts groupSection) (T .counts objectSection * 3) o)
+        (eq-eqb (total T) (sumBelow (T .counts groupSection) (elements T)) (e 2 ∙ sym c))) (le-leb (total T) mostElements (omega (arith, e 2, total-most image base x (view d) (w .objects) n j)))) (eq-eqb (T .counts groupSection) (T .counts objectSection * 3) o)
 
     kept-ruled : converts (view d) ≡ given tt → ruled T (length x) (length image) ≡ true
     unfolding ruled

@@ -10,6 +10,7 @@ use lib.Dec.{eqb, leb}
 use lib.IntN.{ℤ, pos, negsuc}
 use Rattle.number.specs.Answer.{Answer, given, refused}
 use Rattle.text.proofs.Within.{and-left, by-test}
+use Rattle.number.specs.Most.{mostElements}
 use Rattle.cell.specs.Kind.{shapeOf}
 use Rattle.rows.specs.Codes.{AXIS-PTS, CHARACTERISTIC, VAL-BLK, CURVE, MAP, COM-AXIS}
 use Rattle.rows.specs.Sections.{object, axis}
@@ -169,7 +170,7 @@ pub record Stood (image : List ℕ) (base : ℕ) (x : List ℕ) (v : View) (i : 
   pub matched : matching (needOf image base x v i) (layoutOf x v i) ≡ true
   pub held : Held (groundOf x v base i) (needOf image base x v i) image (layoutOf x v i) (layoutOf x v i .nx .present) (layoutOf x v i .ny .present) (placesOf image base x v i)
   pub bytes-in : allInside image base (needOf image base x v i) (layoutOf x v i) (placesOf image base x v i) ≡ true
-  pub few : elementsOf image base x v i ≤ 4096
+  pub few : elementsOf image base x v i ≤ mostElements
   pub some-x : 1 ≤ pointsOf (needOf image base x v i .x) → 1 ≤ placesOf image base x v i .cx
   pub some-y : 1 ≤ pointsOf (needOf image base x v i .y) → 1 ≤ placesOf image base x v i .cy
 

@@ -7,6 +7,7 @@ use mathlib.Core.Bool.{true}
 use mathlib.Core.Logic.{_⊎_}
 use Rattle.text.specs.Answer.{given}
 use Rattle.number.specs.Form.{isGiven}
+use Rattle.number.specs.Most.{mostElements}
 use Rattle.records.specs.Records.{count, slot}
 use Rattle.rows.specs.Sections.{method, object}
 use Rattle.grammar.specs.Move.{view}
@@ -39,7 +40,7 @@ pub record Accepted (image : List ℕ) (base : ℕ) (x : List ℕ) (d : List (Li
   -- "element bytes (12)"
   pub bytes : (i : ℕ) → i < count d object → allInside image base (needOf image base x (view d) i) (layoutOf x (view d) i) (placesOf image base x (view d) i) ≡ true
   -- "4,096 elements in all objects"
-  pub elements : allElements image base x d ≤ 4096
+  pub elements : allElements image base x d ≤ mostElements
 
 -- the description x is read and accepted, and D are the tables' records of it
 pub record Taken (image : List ℕ) (base : ℕ) (x : List ℕ) (D : List (List (List ℕ))) : Type 0 where

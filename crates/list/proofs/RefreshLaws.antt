@@ -14,11 +14,12 @@ use mir.Syntax.{w32, w64}
 use mir.Val.{Fits}
 use Rattle.cell.specs.Kind.{shapeOf}
 use Rattle.tables.specs.Form.{tablesIn}
-use Rattle.tables.specs.Group.{sumBelow, elements, storageOf, placeBy}
+use Rattle.number.specs.Below.{sumBelow}
+use Rattle.tables.specs.Group.{elements, storageOf, placeBy}
 use Rattle.tables.specs.declared.group.Storage.{Storage}
 use Rattle.look.specs.declared.element.Line.{Line}
 use Rattle.look.specs.declared.meaning.Meaning.{Meaning}
-use Rattle.look.specs.Lines.{over, keep, fresh}
+use Rattle.look.specs.Lines.{laidOver, keep, fresh}
 use Rattle.look.specs.Element.{lineOf, shares, touched}
 use Rattle.look.specs.Calls.{Kept, kept, room, groups, remade, refreshed}
 use Rattle.look.specs.Steps.{picked, putLine, putLines, meaningOf}

@@ -17,6 +17,7 @@ use mir.Facts.{toZ-ofZ}
 use lib.ListN.{length, getD, List·getD-eq-default}
 use lib.Seq.{sets-eq}
 use Rattle.number.specs.Answer.{Answer, refused}
+use Rattle.number.specs.Most.{mostElements}
 use Rattle.records.specs.Cells.{sectionIn, slotIn}
 use Rattle.records.specs.Cells as cells
 use Rattle.tables.specs.Form.{tableSections, objectSection, groupSection, tablesIn, total}
@@ -144,7 +145,7 @@ module _ (x t : List ℕ) (c : Columns) where
       pub upto-left : (e : ℕ) → g < n → e ≡ elements (tablesIn t) g → i < e → Upto at n out g i k p now → k < sumBelow n (elements (tablesIn t))
       upto-left e h q l u = let y = u .lines in let s = sum-in (elements (tablesIn t)) g n h in omega arith
 
-      pub upto-room : (e m : ℕ) → at ≤ 2 ^ 24 → sumBelow m (elements (tablesIn t)) ≤ 4096 → n ≡ m → g < n → e ≡ elements (tablesIn t) g → i < e → Upto at n out g i k p now → p < 2 ^ 55
+      pub upto-room : (e m : ℕ) → at ≤ 2 ^ 24 → sumBelow m (elements (tablesIn t)) ≤ mostElements → n ≡ m → g < n → e ≡ elements (tablesIn t) g → i < e → Upto at n out g i k p now → p < 2 ^ 55
       upto-room e m a b f h q l u =
           let d : k < sumBelow m (elements (tablesIn t)) = rw f at (upto-left e h q l u) in
           let v = u .most in
@@ -217,7 +218,7 @@ module _ (x t : List ℕ) (base : ℕ) (k : Kept) (n : ℕ) (e : n ≡ keptNo (l
         let d = leb (cells.room tableSections) (length t) in
         leb-true _ _ (left a b (left (a && b) c (left (a && b && c) d (left (sizesFit (length x) (length (k .image)) base (length t)) (hasRoom t k) (kept-tests .0)))))
 
-    pub kept-lines : sumBelow (tablesIn t .counts groupSection) (elements (tablesIn t)) ≤ 4096
+    pub kept-lines : sumBelow (tablesIn t .counts groupSection) (elements (tablesIn t)) ≤ mostElements
     kept-lines =
         let a = total-is (length x) (length (k .image)) t (kept-tests .1) in
         let b = total-most (length x) (length (k .image)) t (kept-tests .1) in

@@ -9,6 +9,7 @@ use tables::group::elements_of;
 ghost use mathlib.Core.Path.{_≡_};
 ghost use Prim.Native.Nat.{_≤_, _^_};
 ghost use lib.ListN.{length};
+ghost use Rattle.number.specs.Most.{mostElements};
 ghost use Rattle.tables.specs.Form.{groupSection, tablesIn};
 ghost use Rattle.number.specs.Below.{sumBelow};
 ghost use Rattle.tables.specs.Group.{elements};
@@ -37,7 +38,7 @@ fn put_elements(
     first: &[i64],
     second: &[i64],
 ) -> usize
-    requires { ⌜ (at ≤ 2 ^ 24) × (length (now x) ≤ 2 ^ 24) × (sumBelow (tablesIn (now t) .counts groupSection) (elements (tablesIn (now t))) ≤ 4096) ⌝ }
+    requires { ⌜ (at ≤ 2 ^ 24) × (length (now x) ≤ 2 ^ 24) × (sumBelow (tablesIn (now t) .counts groupSection) (elements (tablesIn (now t))) ≤ mostElements) ⌝ }
     ensures { λ r. ⌜ Put at (printedBelow (now (x .entry)) (now (t .entry)) (columns (now (raw .entry)) (now (state .entry)) (now (first .entry)) (now (second .entry))) (tablesIn (now (t .entry)) .counts groupSection)) (now (out .entry)) r (now (out .exit)) ⌝ }
 {
     let groups = count_of(t, GROUP);
@@ -75,7 +76,7 @@ fn put_listing(
     first: &[i64],
     second: &[i64],
 ) -> usize
-    requires { ⌜ (length (now x) ≤ 2 ^ 24) × (sumBelow (tablesIn (now t) .counts groupSection) (elements (tablesIn (now t))) ≤ 4096) ⌝ }
+    requires { ⌜ (length (now x) ≤ 2 ^ 24) × (sumBelow (tablesIn (now t) .counts groupSection) (elements (tablesIn (now t))) ≤ mostElements) ⌝ }
     ensures { λ r. ⌜ Put 0 (printed (now (x .entry)) (now (t .entry)) (columns (now (raw .entry)) (now (state .entry)) (now (first .entry)) (now (second .entry)))) (now (out .entry)) r (now (out .exit)) ⌝ }
 {
     let e = put_header(out);

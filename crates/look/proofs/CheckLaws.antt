@@ -11,6 +11,7 @@ use lib.IntN.{ℤ}
 use lib.ListN.{length}
 use Rattle.number.specs.Answer.{Answer, given, refused}
 use Rattle.text.proofs.Within.{and-left, and-right}
+use Rattle.number.specs.Most.{mostObjects}
 use Rattle.convert.specs.Shown.{shown}
 use Rattle.convert.specs.Told.{held, meant, toldShown}
 use Rattle.convert.specs.declared.fraction.Physical.{Physical}
@@ -70,7 +71,7 @@ module _ (t : List ℕ) (l : Lent) (enough : Bool) (r : ℕ) (p : r ≡ checkedN
   checked-passed x h = let b = checked-tests h in (unfold checked in rw (b .0, b .1))
 
 -- ---- 14
-few-objects : (t : List ℕ) → tablesIn t .counts objectSection ≤ 512
+few-objects : (t : List ℕ) → tablesIn t .counts objectSection ≤ mostObjects
 unfolding countIn tableSections
 few-objects t = omega arith
 

@@ -4,6 +4,7 @@ use mathlib.Core.List.{List}
 use mathlib.Core.Bool.{Bool, cond, _&&_}
 use lib.Dec.{ltb, eqb}
 use lib.IntN.{ℤ}
+use Rattle.number.specs.Most.{mostEntries}
 use Rattle.cell.specs.Kind.{shapeOf}
 use Rattle.cell.specs.Raw.{rawAt}
 use Rattle.convert.specs.Fraction.{Value, fractionOf}
@@ -24,7 +25,7 @@ abbrev pub pastRecords : ℕ
 pastRecords = 65535
 
 abbrev pub lastEntry : ℕ
-lastEntry = 1024
+lastEntry = mostEntries
 
 -- the cell where entry e begins
 abbrev pub entryCell : ℕ → ℕ

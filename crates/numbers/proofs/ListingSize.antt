@@ -8,6 +8,7 @@ use lib.Dec.{eqb, leb, ltb}
 use lib.IntN.{ℤ, pos, negsuc, natAbs}
 use lib.ListN.{length, getD, length-append, length-take, length-drop}
 use Rattle.number.specs.Answer.{given, refused}
+use Rattle.number.specs.Most.{mostElements}
 use Rattle.tables.specs.Form.{objectSection, groupSection, tablesIn}
 use Rattle.number.specs.Below.{sumBelow}
 use Rattle.tables.specs.Group.{elements}
@@ -82,7 +83,7 @@ module _ (x t : List ℕ) (k : Columns) (h : length x ≤ 2 ^ 24) where
   unfolding header
   header-few = refl
 
-  printed-few : sumBelow (tablesIn t .counts groupSection) (elements (tablesIn t)) ≤ 4096 → length (printed x t k) < 2 ^ 63
+  printed-few : sumBelow (tablesIn t .counts groupSection) (elements (tablesIn t)) ≤ mostElements → length (printed x t k) < 2 ^ 63
   unfolding printed
   printed-few s =
       let a = below-few (tablesIn t .counts groupSection) in

@@ -12,6 +12,7 @@ use lib.Seq.{getD-set-other}
 use Rattle.text.specs.Answer.{Answer, given, refused, with}
 use Rattle.text.specs.Bytes.{samePart}
 use Rattle.number.specs.Answer as number
+use Rattle.number.specs.Most.{mostObjects}
 use Rattle.records.specs.Cells.{countIn}
 use Rattle.rows.specs.Sections.{sections, object}
 use Rattle.grammar.specs.Move.{View, viewIn}
@@ -39,7 +40,7 @@ module _ (x : List ℕ) (v : View) (j a e : ℕ) where
   led-below h = omega (arith, find-below)
 
 -- "512 objects"
-pub objects-few : (t : List ℕ) → viewIn t .counts object ≤ 512
+pub objects-few : (t : List ℕ) → viewIn t .counts object ≤ mostObjects
 unfolding countIn sections
 objects-few t = omega arith
 
@@ -132,4 +133,4 @@ module _ (image : List ℕ) (base : ℕ) (x : List ℕ) (v : View) where
   unfolding judgeAll
   judge-all-each n p i h =
       let z : 0 + i ≡ i = omega arith in
-      judged-in (turnsFrom (v .counts object) x v 0) (replicate 512 0) 0 n i p (rw z at (each-turn x v (v .counts object) 0 i h)) (unmarked 512 i)
+      judged-in (turnsFrom (v .counts object) x v 0) (replicate mostObjects 0) 0 n i p (rw z at (each-turn x v (v .counts object) 0 i h)) (unmarked mostObjects i)

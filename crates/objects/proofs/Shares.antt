@@ -7,6 +7,7 @@ use native.Mathlib.Omega.{arith}
 use borrow.Author.Tests.{leb-true}
 use lib.Dec.{leb}
 use Rattle.number.specs.Answer.{Answer, given, refused}
+use Rattle.number.specs.Most.{mostElements}
 use Rattle.grammar.specs.Move.{View}
 use Rattle.place.specs.Judge.{elementsStored, allInside, weighed, after, judgedObject}
 use Rattle.place.specs.Walk.{placement}
@@ -22,7 +23,7 @@ pub record Weighed (image : List ℕ) (base : ℕ) (n : Need) (l : Layout) (used
   pub places : s .places ≡ p
   pub inside : allInside image base n l p ≡ true
   pub total : s .total ≡ used + elementsStored n p
-  pub most : s .total ≤ 4096
+  pub most : s .total ≤ mostElements
 
 -- object i stands at s, after others with so many elements
 pub record Share (image : List ℕ) (base : ℕ) (x : List ℕ) (v : View) (i used : ℕ) (s : Standing) : Type 0 where
@@ -32,20 +33,20 @@ pub record Share (image : List ℕ) (base : ℕ) (x : List ℕ) (v : View) (i us
   pub places : s .places ≡ placesOf image base x v i
   pub inside : allInside image base (needOf image base x v i) (layoutOf x v i) (placesOf image base x v i) ≡ true
   pub total : s .total ≡ used + elementsOf image base x v i
-  pub most : s .total ≤ 4096
+  pub most : s .total ≤ mostElements
 
 module _ (image : List ℕ) (base : ℕ) (n : Need) (l : Layout) (used : ℕ) (s : Standing) where
-  weighed-turn : (p : Places) (a b : Bool) → leb (used + elementsStored n p) 4096 ≡ a → allInside image base n l p ≡ b
+  weighed-turn : (p : Places) (a b : Bool) → leb (used + elementsStored n p) mostElements ≡ a → allInside image base n l p ≡ b
       → cond a (cond b (given (record { places = p; total = used + elementsStored n p })) (refused 12)) (refused 8) ≡ given s → Weighed image base n l used s p
   weighed-turn p true true e f q =
       let t : used + elementsStored n p ≡ s .total = cc in
-      record { places = cc; inside = f; total = sym t; most = omega (arith, leb-true (used + elementsStored n p) 4096 e) }
+      record { places = cc; inside = f; total = sym t; most = omega (arith, leb-true (used + elementsStored n p) mostElements e) }
   weighed-turn p true false e f q = let z : _≡_ {A = ℕ} 0 1 = cc in absurd (omega arith)
   weighed-turn p false b e f q = let z : _≡_ {A = ℕ} 0 1 = cc in absurd (omega arith)
 
   weighed-is : (p : Places) → weighed image base n l used p ≡ given s → Weighed image base n l used s p
   unfolding weighed
-  weighed-is p q = weighed-turn p (leb (used + elementsStored n p) 4096) (allInside image base n l p) refl refl q
+  weighed-is p q = weighed-turn p (leb (used + elementsStored n p) mostElements) (allInside image base n l p) refl refl q
 
 module _ (image : List ℕ) (base : ℕ) (x : List ℕ) (v : View) (i used : ℕ) (s : Standing) where
   share-after : (a : Answer Reached) → placement (groundOf x v base i) (needOf image base x v i) image (layoutOf x v i) ≡ a → maskFits x v i ≡ true

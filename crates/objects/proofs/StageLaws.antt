@@ -12,6 +12,7 @@ use mir.Syntax.{w32}
 use mir.Val.{Fits}
 use Rattle.text.specs.Answer.{Answer, given, refused, with}
 use Rattle.number.specs.Answer as number
+use Rattle.number.specs.Most.{mostObjects}
 use Rattle.rows.specs.Sections.{object, axis}
 use Rattle.grammar.specs.Move.{View}
 use Rattle.place.specs.Told.{toldJudged}
@@ -155,7 +156,7 @@ module _ (image : List ℕ) (base : ℕ) (x : List ℕ) (v : View) (seen₀ : Li
 
 pub ruleset judgings = (judging-start, judging-end, judging-on, judging-stop, needs)
 
-pub all-are : (image : List ℕ) (base : ℕ) (x : List ℕ) (v : View) (r : Answer ℕ) → r ≡ judgeEach image base x v (replicate 512 0) (turnsFrom (v .counts object) x v 0) 0 → r ≡ judgeAll image base x v
+pub all-are : (image : List ℕ) (base : ℕ) (x : List ℕ) (v : View) (r : Answer ℕ) → r ≡ judgeEach image base x v (replicate mostObjects 0) (turnsFrom (v .counts object) x v 0) 0 → r ≡ judgeAll image base x v
 unfolding judgeAll
 all-are image base x v r p = p
 

@@ -11,6 +11,7 @@ use lib.ListN.{length, getD, set, replicate, length-set, length-replicate}
 use lib.Seq.{getD-set-same, getD-set-other}
 use Rattle.text.specs.Answer.{Answer, given, refused, with}
 use Rattle.number.specs.Answer as number
+use Rattle.number.specs.Most.{mostObjects, mostElements}
 use Rattle.rows.specs.Sections.{object}
 use Rattle.grammar.specs.Move.{View}
 use Rattle.place.specs.declared.judge.Standing.{Standing}
@@ -41,7 +42,7 @@ module _ (f g : ℕ → ℕ) (j d : ℕ) (other : (k : ℕ) → (k ≡ j → ⊥
       last false e ih = omega (arith, ih (omega (arith, eqb-false j n e)), other n (λ y. eqb-false j n e (sym y)))
 
 module _ (image : List ℕ) (base : ℕ) (x : List ℕ) (v : View) where
-  share-told : (i used p u : ℕ) (a : number.Answer Standing) → judgeObject image base x v i used ≡ a → stage.totalOr p a ≡ given u → (u ≡ used + elementsOf image base x v i) × (u ≤ 4096)
+  share-told : (i used p u : ℕ) (a : number.Answer Standing) → judgeObject image base x v i used ≡ a → stage.totalOr p a ≡ given u → (u ≡ used + elementsOf image base x v i) × (u ≤ mostElements)
   share-told i used p u (number.given s) e q =
       let t : s .total ≡ u = cc in
       let k : Share image base x v i used s = share image base x v i used s e in
@@ -68,14 +69,14 @@ module _ (image : List ℕ) (base : ℕ) (x : List ℕ) (v : View) where
   -- object j's turn, after which there are u elements
   pub record Took (seen : List ℕ) (j used u : ℕ) : Type 0 where
     pub total : used ≡ sumOf seen → u ≡ sumOf (marked seen j)
-    pub most : used ≤ 4096 → u ≤ 4096
+    pub most : used ≤ mostElements → u ≤ mostElements
     pub long : length (marked seen j) ≡ length seen
     pub own : eqb (getD (marked seen j) j 0) 0 ≡ false
 
   took-turn : (seen : List ℕ) (j used u : ℕ) → j < length seen → j < v .counts object → (b : Bool) → eqb (getD seen j 0) 0 ≡ b
       → cond b (stage.totalOr (v .slots object j 0) (judgeObject image base x v j used)) (given used) ≡ given u → Took seen j used u
   took-turn seen j used u l h true e q =
-      let k : (u ≡ used + elementsOf image base x v j) × (u ≤ 4096) = share-told j used (v .slots object j 0) u (judgeObject image base x v j used) refl q in
+      let k : (u ≡ used + elementsOf image base x v j) × (u ≤ mostElements) = share-told j used (v .slots object j 0) u (judgeObject image base x v j used) refl q in
       record {
         total = λ t. rw e (k .0 ∙ rw t (sym (sum-marked seen j l h e)));
         most = λ t. k .1;
@@ -94,7 +95,7 @@ module _ (image : List ℕ) (base : ℕ) (x : List ℕ) (v : View) where
   pub record Ran (is seen : List ℕ) (n : ℕ) : Type 0 where
     pub after : List ℕ
     pub total : n ≡ sumOf after
-    pub most : n ≤ 4096
+    pub most : n ≤ mostElements
     pub kept : (i : ℕ) → eqb (getD seen i 0) 0 ≡ false → eqb (getD after i 0) 0 ≡ false
     pub all : (i : ℕ) → In i is → eqb (getD after i 0) 0 ≡ false
 
@@ -108,8 +109,8 @@ module _ (image : List ℕ) (base : ℕ) (x : List ℕ) (v : View) where
   all-one js seen after j o k a i (inr m) = a i m
 
   -- object j's turn and then those of js; ih is what is known of those
-  module _ (j : ℕ) (js seen : List ℕ) (used n : ℕ) (l : j < length seen) (h : j < v .counts object) (t : used ≡ sumOf seen) (y : used ≤ 4096)
-      (ih : (u : ℕ) → judgeEach image base x v (marked seen j) js u ≡ given n → u ≡ sumOf (marked seen j) → u ≤ 4096 → length (marked seen j) ≡ length seen → Ran js (marked seen j) n) where
+  module _ (j : ℕ) (js seen : List ℕ) (used n : ℕ) (l : j < length seen) (h : j < v .counts object) (t : used ≡ sumOf seen) (y : used ≤ mostElements)
+      (ih : (u : ℕ) → judgeEach image base x v (marked seen j) js u ≡ given n → u ≡ sumOf (marked seen j) → u ≤ mostElements → length (marked seen j) ≡ length seen → Ran js (marked seen j) n) where
     ran-turn : (a : Answer ℕ) → turn image base x v seen j used ≡ a → with a (judgeEach image base x v (marked seen j) js) ≡ given n → Ran (j ∷ js) seen n
     ran-turn (given u) q r =
         let k : Took seen j used u = took seen j used u l h q in
@@ -123,7 +124,7 @@ module _ (image : List ℕ) (base : ℕ) (x : List ℕ) (v : View) where
         }
     ran-turn (refused k p) q r = let z : _≡_ {A = ℕ} 0 1 = cc in absurd (omega arith)
 
-  ran : (is seen : List ℕ) (used n : ℕ) → v .counts object ≤ length seen → ((j : ℕ) → In j is → j < v .counts object) → used ≡ sumOf seen → used ≤ 4096
+  ran : (is seen : List ℕ) (used n : ℕ) → v .counts object ≤ length seen → ((j : ℕ) → In j is → j < v .counts object) → used ≡ sumOf seen → used ≤ mostElements
       → judgeEach image base x v seen is used ≡ given n → Ran is seen n
   unfolding judgeEach
   ran [] seen used n l b t y q = let e : used ≡ n = cc in record { after = seen; total = sym e ∙ t; most = omega arith; kept = λ i h. h; all = λ i m. absurd m }
@@ -170,12 +171,12 @@ module _ (image : List ℕ) (base : ℕ) (x : List ℕ) (v : View) where
   sum-none k zero = refl
   sum-none k (suc n) = rw (unmarked k n, sum-none k n)
 
-  module _ (few : v .counts object ≤ 512) (n : ℕ) (p : judgeAll image base x v ≡ given n) where
-    all-ran : Ran (turnsFrom (v .counts object) x v 0) (replicate 512 0) n
+  module _ (few : v .counts object ≤ mostObjects) (n : ℕ) (p : judgeAll image base x v ≡ given n) where
+    all-ran : Ran (turnsFrom (v .counts object) x v 0) (replicate mostObjects 0) n
     unfolding judgeAll
     all-ran =
-        let l : length {A = ℕ} (replicate 512 0) ≡ 512 = length-replicate {A = ℕ} 512 0 in
-        ran (turnsFrom (v .counts object) x v 0) (replicate 512 0) 0 n (omega arith) (λ j m. turns-below (v .counts object) 0 j (omega arith) m) (sym (sum-none 512 (v .counts object))) (omega arith) p
+        let l : length {A = ℕ} (replicate mostObjects 0) ≡ mostObjects = length-replicate {A = ℕ} mostObjects 0 in
+        ran (turnsFrom (v .counts object) x v 0) (replicate mostObjects 0) 0 n (omega arith) (λ j m. turns-below (v .counts object) 0 j (omega arith) m) (sym (sum-none mostObjects (v .counts object))) (omega arith) p
 
     -- the element total is the sum of each one's elements
     pub total-is : n ≡ sumBelow (v .counts object) (elementsOf image base x v)
@@ -185,5 +186,5 @@ module _ (image : List ℕ) (base : ℕ) (x : List ℕ) (v : View) where
         each i h = let z : 0 + i ≡ i = omega arith in rw (all-ran .all i (rw z at (each-turn x v (v .counts object) 0 i h)))
 
     -- "4,096 elements in all objects"
-    pub total-most : n ≤ 4096
+    pub total-most : n ≤ mostElements
     total-most = all-ran .most

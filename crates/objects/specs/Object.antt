@@ -5,7 +5,8 @@ use mathlib.Core.List.{List}
 use mathlib.Core.Bool.{Bool, true, false, cond, _||_}
 use lib.Dec.{eqb, ltb}
 use Rattle.number.specs.Answer.{Answer, given, refused}
-use Rattle.cell.specs.Kind.{isType, shapeOf}
+use Rattle.number.specs.Most.{mostAxes}
+use Rattle.cell.specs.Kind.{shapeOf}
 use Rattle.cell.specs.Mask.{maskRule}
 use Rattle.rows.specs.Codes.{AXIS-PTS, CHARACTERISTIC, MEASUREMENT, MSB-FIRST, VAL-BLK, CURVE, MAP, COM-AXIS}
 use Rattle.rows.specs.Sections.{file, layout, object, axis}
@@ -91,7 +92,7 @@ blockNeed v i = record { values = true; x = record { stored = false; most = min 
 
 -- the place of AXIS_DESCR k of object i among all of them
 abbrev pub axisAt : View → ℕ → ℕ → ℕ
-axisAt v i k = min (v .slots object i 2) 1024 + k
+axisAt v i k = min (v .slots object i 2) mostAxes + k
 
 -- the AXIS_PTS that AXIS_DESCR a names
 abbrev pub sharedBy : List ℕ → View → ℕ → ℕ

@@ -7,6 +7,7 @@ use lib.Dec.{eqb, ltb}
 use lib.ListN.{getD, set, replicate}
 use Rattle.text.specs.Answer.{Answer, given, refused, with}
 use Rattle.number.specs.Answer as number
+use Rattle.number.specs.Most.{mostObjects}
 use Rattle.rows.specs.Codes.{COM-AXIS}
 use Rattle.rows.specs.Sections.{object, axis}
 use Rattle.grammar.specs.Move.{View}
@@ -57,7 +58,7 @@ module _ (image : List ℕ) (base : ℕ) (x : List ℕ) (v : View) where
 
   -- all objects: how many elements they have, or the first refusal
   unfoldable pub judgeAll : Answer ℕ
-  judgeAll = judgeEach (replicate 512 0) (turnsFrom (v .counts object) x v 0) 0
+  judgeAll = judgeEach (replicate mostObjects 0) (turnsFrom (v .counts object) x v 0) 0
 
 -- what `Turn` answers
 abbrev pub toldTurn : Turn → Answer ℕ

@@ -10,6 +10,7 @@ use borrow.Author.Needs.{needs}
 use mir.Syntax.{w64}
 use mir.Val.{Fits}
 use Rattle.number.specs.Answer.{Answer, given, refused}
+use Rattle.number.specs.Most.{mostElements}
 use Rattle.cell.specs.Kind.{shapeOf}
 use Rattle.cell.specs.declared.kind.Shape.{Shape}
 use Rattle.cell.proofs.Shapes.{bytes-of}
@@ -66,18 +67,18 @@ unfolding allInside
 all-inside image base n l p a b c x y v ex ey ev ea eb ec = rw (ea, eb, ec, ex, ey, ev)
 
 module _ (image : List ℕ) (base : ℕ) (n : Need) (l : Layout) (used : ℕ) (p : Places) (e : ℕ) (q : e ≡ elementsStored n p) where
-  pub weigh-over : 4096 < used + e → refused 8 ≡ weighed image base n l used p
+  pub weigh-over : mostElements < used + e → refused 8 ≡ weighed image base n l used p
   unfolding weighed
-  weigh-over h = rw (← q, lt-leb (used + e) 4096 h)
+  weigh-over h = rw (← q, lt-leb (used + e) mostElements h)
 
-  module _ (h : used + e ≤ 4096) (b : Bool) (i : b ≡ allInside image base n l p) where
+  module _ (h : used + e ≤ mostElements) (b : Bool) (i : b ≡ allInside image base n l p) where
     pub weigh-fine : b ≡ true → given (record { places = p; total = used + e }) ≡ weighed image base n l used p
     unfolding weighed
-    weigh-fine t = rw (← q, le-leb (used + e) 4096 h, ← i, t)
+    weigh-fine t = rw (← q, le-leb (used + e) mostElements h, ← i, t)
 
     pub weigh-out : b ≡ false → refused 12 ≡ weighed image base n l used p
     unfolding weighed
-    weigh-out t = rw (← q, le-leb (used + e) 4096 h, ← i, t)
+    weigh-out t = rw (← q, le-leb (used + e) mostElements h, ← i, t)
 
 pub ruleset weights = (weigh-over, weigh-fine, weigh-out, needs)
 

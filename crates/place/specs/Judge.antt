@@ -4,6 +4,7 @@ use mathlib.Core.List.{List}
 use mathlib.Core.Bool.{Bool, cond, not, _&&_, _||_}
 use lib.Dec.{leb}
 use Rattle.number.specs.Answer.{Answer, given, refused}
+use Rattle.number.specs.Most.{mostElements}
 use Rattle.cell.specs.Kind.{shapeOf}
 use Rattle.place.specs.Inside.{inside}
 use Rattle.place.specs.Walk.{placement}
@@ -33,7 +34,7 @@ allInside image base n l p =
 -- "4,096 elements in all objects" (else 8), with those of the objects before; then "a byte outside the image" (12)
 unfoldable pub weighed : List ℕ → ℕ → Need → Layout → ℕ → Places → Answer Standing
 weighed image base n l used p =
-    cond (leb (used + elementsStored n p) 4096)
+    cond (leb (used + elementsStored n p) mostElements)
     (cond (allInside image base n l p) (given (record { places = p; total = used + elementsStored n p })) (refused 12))
     (refused 8)
 

@@ -13,6 +13,7 @@
 -- A decimal takes three slots: 1 below zero, its whole number, its power of ten.
 use Prim.Native.Nat.{ℕ}
 use mathlib.Core.List.{List, [], _∷_}
+use Rattle.number.specs.Most.{mostObjects, mostMethods, mostTables, mostLayouts, mostEntries, mostAxes}
 use Rattle.records.specs.Records.{Sec}
 
 abbrev pub file : ℕ
@@ -44,10 +45,10 @@ none = 7
 unfoldable pub sections : List Sec
 sections =
     record { width = 11; most = 1 }
-    ∷ record { width = 28; most = 128 }
-    ∷ record { width = 9; most = 128 }
-    ∷ record { width = 4; most = 1024 }
-    ∷ record { width = 31; most = 64 }
-    ∷ record { width = 28; most = 512 }
-    ∷ record { width = 17; most = 1024 }
+    ∷ record { width = 28; most = mostMethods }
+    ∷ record { width = 9; most = mostTables }
+    ∷ record { width = 4; most = mostEntries }
+    ∷ record { width = 31; most = mostLayouts }
+    ∷ record { width = 28; most = mostObjects }
+    ∷ record { width = 17; most = mostAxes }
     ∷ []

@@ -15,6 +15,7 @@ use tables::group::x_of;
 use tables::group::y_of;
 ghost use mathlib.Core.Path.{_≡_};
 ghost use Prim.Native.Nat.{_<_};
+ghost use Rattle.number.specs.Most.{mostObjects};
 ghost use Rattle.tables.specs.Form.{tablesIn};
 ghost use Rattle.tables.specs.Rule.{axisPtsRule, blockRule, valueRule, measurementRule, curveRule, mapRule, partsRule, objectRule};
 
@@ -23,7 +24,7 @@ const FORBIDDEN: u16 = 10;
 
 // Whether an AXIS_PTS has x points alone.
 fn keeps_axis_pts(t: &[u64], i: u16) -> bool
-    requires { ⌜ i < 512 ⌝ }
+    requires { ⌜ i < mostObjects ⌝ }
     ensures { λ r. ⌜ r ≡ axisPtsRule (tablesIn (now (t .entry))) i ⌝ }
 {
     let x = kind_of(t, i * PARTS);
@@ -34,7 +35,7 @@ fn keeps_axis_pts(t: &[u64], i: u16) -> bool
 
 // Whether a VAL_BLK has values alone, in one row.
 fn keeps_block(t: &[u64], i: u16) -> bool
-    requires { ⌜ i < 512 ⌝ }
+    requires { ⌜ i < mostObjects ⌝ }
     ensures { λ r. ⌜ r ≡ blockRule (tablesIn (now (t .entry))) i ⌝ }
 {
     let x = kind_of(t, i * PARTS);
@@ -46,7 +47,7 @@ fn keeps_block(t: &[u64], i: u16) -> bool
 
 // Whether a VALUE has one element.
 fn keeps_value(t: &[u64], i: u16) -> bool
-    requires { ⌜ i < 512 ⌝ }
+    requires { ⌜ i < mostObjects ⌝ }
     ensures { λ r. ⌜ r ≡ valueRule (tablesIn (now (t .entry))) i ⌝ }
 {
     let block = keeps_block(t, i);
@@ -56,7 +57,7 @@ fn keeps_value(t: &[u64], i: u16) -> bool
 
 // Whether a MEASUREMENT has one element, which is marked as not to be written.
 fn keeps_measurement(t: &[u64], i: u16) -> bool
-    requires { ⌜ i < 512 ⌝ }
+    requires { ⌜ i < mostObjects ⌝ }
     ensures { λ r. ⌜ r ≡ measurementRule (tablesIn (now (t .entry))) i ⌝ }
 {
     let value = keeps_value(t, i);
@@ -66,7 +67,7 @@ fn keeps_measurement(t: &[u64], i: u16) -> bool
 
 // Whether a CURVE has values in one row, and no y points.
 fn keeps_curve(t: &[u64], i: u16) -> bool
-    requires { ⌜ i < 512 ⌝ }
+    requires { ⌜ i < mostObjects ⌝ }
     ensures { λ r. ⌜ r ≡ curveRule (tablesIn (now (t .entry))) i ⌝ }
 {
     let y = kind_of(t, i * PARTS + 1);
@@ -77,7 +78,7 @@ fn keeps_curve(t: &[u64], i: u16) -> bool
 
 // Whether a MAP has values.
 fn keeps_map(t: &[u64], i: u16) -> bool
-    requires { ⌜ i < 512 ⌝ }
+    requires { ⌜ i < mostObjects ⌝ }
     ensures { λ r. ⌜ r ≡ mapRule (tablesIn (now (t .entry))) i ⌝ }
 {
     kind_of(t, i * PARTS + 2) != 0
@@ -85,7 +86,7 @@ fn keeps_map(t: &[u64], i: u16) -> bool
 
 // Whether object i has the parts that what it is asks for; what no object is has none.
 fn keeps_parts(t: &[u64], i: u16, what: u64) -> bool
-    requires { ⌜ i < 512 ⌝ }
+    requires { ⌜ i < mostObjects ⌝ }
     ensures { λ r. ⌜ r ≡ partsRule (tablesIn (now (t .entry))) i what ⌝ }
 {
     match what {
@@ -101,7 +102,7 @@ fn keeps_parts(t: &[u64], i: u16, what: u64) -> bool
 
 // Whether object i has its name inside the description, and its parts.
 pub fn keeps_object(t: &[u64], n: usize, i: u16) -> bool
-    requires { ⌜ i < 512 ⌝ }
+    requires { ⌜ i < mostObjects ⌝ }
     ensures { λ r. ⌜ r ≡ objectRule (tablesIn (now (t .entry))) n i ⌝ }
 {
     let first = slot_of(t, OBJECT, i, 0);

@@ -3,6 +3,7 @@ use Prim.Native.Nat.{ℕ, zero, suc}
 use mathlib.Core.Path.{_≡_, refl, sym, _∙_, ap}
 use mathlib.Core.List.{List}
 use borrow.Author.Needs.{needs}
+use Rattle.number.specs.Most.{mostObjects, mostMethods, mostTables, mostEntries, mostGroups}
 use Rattle.records.specs.Cells.{sectionIn, countIn, slotIn, putIn, addIn}
 use Rattle.records.specs.declared.Section.{Section}
 use Rattle.tables.specs.Form.{tableSections}
@@ -30,23 +31,23 @@ module _ (j : ℕ) (r : Section) where
   unfolding tableSections
   section-0 p = numbered j 0 r p
 
-  pub section-1 : r ≡ sec 4 3 512 → j ≡ 1 → r ≡ sectionIn tableSections j
+  pub section-1 : r ≡ sec 4 3 mostObjects → j ≡ 1 → r ≡ sectionIn tableSections j
   unfolding tableSections
   section-1 p = numbered j 1 r p
 
-  pub section-2 : r ≡ sec 1541 19 1536 → j ≡ 2 → r ≡ sectionIn tableSections j
+  pub section-2 : r ≡ sec 1541 19 mostGroups → j ≡ 2 → r ≡ sectionIn tableSections j
   unfolding tableSections
   section-2 p = numbered j 2 r p
 
-  pub section-3 : r ≡ sec 30726 10 128 → j ≡ 3 → r ≡ sectionIn tableSections j
+  pub section-3 : r ≡ sec 30726 10 mostMethods → j ≡ 3 → r ≡ sectionIn tableSections j
   unfolding tableSections
   section-3 p = numbered j 3 r p
 
-  pub section-4 : r ≡ sec 32007 4 128 → j ≡ 4 → r ≡ sectionIn tableSections j
+  pub section-4 : r ≡ sec 32007 4 mostTables → j ≡ 4 → r ≡ sectionIn tableSections j
   unfolding tableSections
   section-4 p = numbered j 4 r p
 
-  pub section-5 : r ≡ sec 32520 4 1024 → j ≡ 5 → r ≡ sectionIn tableSections j
+  pub section-5 : r ≡ sec 32520 4 mostEntries → j ≡ 5 → r ≡ sectionIn tableSections j
   unfolding tableSections
   section-5 p = numbered j 5 r p
 

@@ -11,12 +11,14 @@ use borrow.Author.Tests.{ltb-true, ltb-false, eqb-true, eqb-false, eq-eqb, ne-eq
 use lib.Bits.{bitOr, or-add-and, and-le-l, and-le-r}
 use lib.Dec.{eqb, leb, ltb}
 use lib.ListN.{length, getD, List·getD-eq-default}
+use Rattle.number.specs.Most.{mostObjects}
 use Rattle.records.specs.Cells.{sectionIn, countIn, slotIn}
 use Rattle.records.specs.declared.Section.{Section}
 use Rattle.records.proofs.OpLaws.{product}
 use Rattle.tables.specs.Form.{tableSections, pastPoints, objectSection, Tables, tablesIn}
-use Rattle.tables.specs.Group.{sumBelow, elements}
-use Rattle.tables.specs.Rule.{allBelow, countFits, unusedZero, formRule, ruled, keepsRule}
+use Rattle.number.specs.Below.{sumBelow, allBelow}
+use Rattle.tables.specs.Group.{elements}
+use Rattle.tables.specs.Rule.{countFits, unusedZero, formRule, ruled, keepsRule}
 use Rattle.tables.proofs.All.{all-none, all-more, all-fails, sum-none, sum-more, sum-most}
 use Rattle.tables.proofs.GroupLaws.{elements-most}
 
@@ -34,7 +36,7 @@ module _ (f : ℕ → Bool) where
 pub ruleset turns = (all-none, all-on, all-stop, all-done, needs)
 
 -- "512 objects"
-pub object-few : (t : List ℕ) (c i : ℕ) → c ≡ countIn t (sectionIn tableSections objectSection) → i < c → i < 512
+pub object-few : (t : List ℕ) (c i : ℕ) → c ≡ countIn t (sectionIn tableSections objectSection) → i < c → i < mostObjects
 unfolding countIn tableSections
 object-few t c i p h = omega arith
 

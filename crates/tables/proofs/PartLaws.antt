@@ -9,6 +9,7 @@ use borrow.Author.Tests.{le-ltb, lt-ltb, eq-eqb, ne-eqb}
 use lib.Dec.{eqb, leb}
 use Rattle.number.specs.Told.{scaled}
 use Rattle.number.specs.declared.decimal.Decimal.{Decimal}
+use Rattle.number.specs.Most.{mostElements, mostPoints}
 use Rattle.cell.specs.Kind.{shapeOf, isType}
 use Rattle.cell.specs.Mask.{maskRule}
 use Rattle.cell.proofs.Shapes.{bytes-le}
@@ -16,8 +17,9 @@ use Rattle.convert.specs.Limit.{atMost}
 use Rattle.convert.specs.Method.{soundMethod}
 use Rattle.convert.specs.declared.method.Coefficients.{Coefficients}
 use Rattle.tables.specs.Form.{headSection, objectSection, groupSection, methodSection, tableSection, entrySection, Tables, pastPoints, total, kind, place, x, y, wide, high, walk, methodOf, mask, counter, counterPlace, limit, coefficients}
-use Rattle.tables.specs.Group.{sumBelow, elements, bytes}
-use Rattle.tables.specs.Rule.{allBelow, isFraction, isType, textRule, insideRule, wordRule, partsRule, objectRule, isNoPart, pointsRule, counterRule, axisRule, valuesRule, limitsRule, bytesRule, roleRule, partRule, groupRule, verbalRule, signsRule, fractionRule, methodRule, tableRule, entryRule, headRule, ruled}
+use Rattle.number.specs.Below.{sumBelow, allBelow}
+use Rattle.tables.specs.Group.{elements, bytes}
+use Rattle.tables.specs.Rule.{isFraction, textRule, insideRule, wordRule, partsRule, objectRule, isNoPart, pointsRule, counterRule, axisRule, valuesRule, limitsRule, bytesRule, roleRule, partRule, groupRule, verbalRule, signsRule, fractionRule, methodRule, tableRule, entryRule, headRule, ruled}
 
 module _ (T : Tables) where
   pub object-is : (n i a b k : ℕ) (r s : Bool) → a ≡ T .slots objectSection i 0 → b ≡ T .slots objectSection i 1 → k ≡ T .slots objectSection i 2 → r ≡ textRule n a b → s ≡ partsRule T i k
@@ -31,7 +33,7 @@ module _ (T : Tables) where
     none-is r p = rw p (simp add-zero)
 
     pub points-are : (a b c d : ℕ) → a ≡ x T g → b ≡ y T g → c ≡ wide T g → d ≡ high T g
-        → (leb 1 a && leb a 4096 && leb 1 b && leb b 4096 && eqb c a && eqb d b) ≡ pointsRule T g
+        → (leb 1 a && leb a mostPoints && leb 1 b && leb b mostPoints && eqb c a && eqb d b) ≡ pointsRule T g
     unfolding pointsRule
     points-are a b c d p q r s = rw (p, q, r, s)
 
@@ -115,7 +117,7 @@ module _ (T : Tables) where
     entry-is n a d e s e1 e2 e3 e4 = rw (e4, e1, e2, e3)
 
   pub head-is : (h a b c s n k : ℕ) → h ≡ T .counts headSection → a ≡ T .slots headSection 0 0 → b ≡ T .slots headSection 0 1 → c ≡ total T → s ≡ sumBelow (T .counts groupSection) (elements T)
-      → n ≡ T .counts groupSection → k ≡ T .counts objectSection → (eqb h 1 && eqb a 0 && eqb b 0 && eqb c s && leb c 4096 && eqb n (k * 3)) ≡ headRule T
+      → n ≡ T .counts groupSection → k ≡ T .counts objectSection → (eqb h 1 && eqb a 0 && eqb b 0 && eqb c s && leb c mostElements && eqb n (k * 3)) ≡ headRule T
   unfolding headRule
   head-is h a b c s n k e1 e2 e3 e4 e5 e6 e7 = rw (e5, e1, e2, e3, e4, e6, e7)
 

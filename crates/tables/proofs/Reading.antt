@@ -12,7 +12,8 @@ use native.Mathlib.Omega.{arith}
 use native.Mathlib.Nat.{mul-le-mul-left, mul-suc, zero-mul}
 use borrow.Author.Tests.{eqb-true, leb-true, ne-eqb, eq-eqb}
 use lib.Dec.{eqb, leb, ltb}
-use Rattle.cell.specs.Kind.{shapeOf, isType}
+use Rattle.number.specs.Most.{mostElements, mostPoints}
+use Rattle.cell.specs.Kind.{shapeOf}
 use Rattle.cell.specs.Mask.{maskRule}
 use Rattle.rows.specs.Codes.{MEASUREMENT}
 use Rattle.tables.specs.Form.{headSection, objectSection, groupSection, methodSection, tableSection, entrySection, Tables, tablesIn, total, kind, place, x, y, wide, high, walk, methodOf, mask, forbidden, counter, counterPlace}
@@ -54,7 +55,7 @@ module _ (T : Tables) (g m : ℕ) where
   part-facts h =
       let u = three (isType (kind T g) && leb (T .slots groupSection g 1) 1 && pointsRule T g && bytesRule T g m && roleRule T g m && leb (methodOf T g) (T .counts methodSection)) (leb (T .slots groupSection g 10) 1) (limitsRule T g) h in
       let v = six (isType (kind T g)) (leb (T .slots groupSection g 1) 1) (pointsRule T g) (bytesRule T g m) (roleRule T g m) (leb (methodOf T g) (T .counts methodSection)) (u .0) in
-      let p = three (leb 1 (x T g) && leb (x T g) 4096 && leb 1 (y T g) && leb (y T g) 4096) (eqb (wide T g) (x T g)) (eqb (high T g) (y T g)) (v .2) in
+      let p = three (leb 1 (x T g) && leb (x T g) mostPoints && leb 1 (y T g) && leb (y T g) mostPoints) (eqb (wide T g) (x T g)) (eqb (high T g) (y T g)) (v .2) in
       record {
         same-wide = eqb-true (wide T g) (x T g) (p .1);
         same-high = eqb-true (high T g) (y T g) (p .2);
@@ -127,11 +128,11 @@ rule-facts n m t h =
     record { of-head = v .0; of-objects = v .1; of-groups = v .2; of-methods = v .3; of-tables = v .4; of-entries = v .5 }
 
 -- what the head says
-head-facts : (T : Tables) → headRule T ≡ true → (total T ≡ sumBelow (T .counts groupSection) (elements T)) × (total T ≤ 4096) × (T .counts groupSection ≡ T .counts objectSection * 3)
+head-facts : (T : Tables) → headRule T ≡ true → (total T ≡ sumBelow (T .counts groupSection) (elements T)) × (total T ≤ mostElements) × (T .counts groupSection ≡ T .counts objectSection * 3)
 unfolding headRule
 head-facts T h =
-    let v = six (eqb (T .counts headSection) 1) (eqb (T .slots headSection 0 0) 0) (eqb (T .slots headSection 0 1) 0) (eqb (total T) (sumBelow (T .counts groupSection) (elements T))) (leb (total T) 4096) (eqb (T .counts groupSection) (T .counts objectSection * 3)) h in
-    (eqb-true (total T) (sumBelow (T .counts groupSection) (elements T)) (v .3), leb-true (total T) 4096 (v .4), eqb-true (T .counts groupSection) (T .counts objectSection * 3) (v .5))
+    let v = six (eqb (T .counts headSection) 1) (eqb (T .slots headSection 0 0) 0) (eqb (T .slots headSection 0 1) 0) (eqb (total T) (sumBelow (T .counts groupSection) (elements T))) (leb (total T) mostElements) (eqb (T .counts groupSection) (T .counts objectSection * 3)) h in
+    (eqb-true (total T) (sumBelow (T .counts groupSection) (elements T)) (v .3), leb-true (total T) mostElements (v .4), eqb-true (T .counts groupSection) (T .counts objectSection * 3) (v .5))
 
 -- what one record says
 object-facts : (T : Tables) (n i : ℕ) → objectRule T n i ≡ true → (T .slots objectSection i 0 ≤ T .slots objectSection i 1) × (T .slots objectSection i 1 ≤ n)
@@ -213,7 +214,7 @@ module _ (n m : ℕ) (t : List ℕ) (h : keepsRule n m t ≡ true) where
   pub total-is : total (tablesIn t) ≡ sumBelow (tablesIn t .counts groupSection) (elements (tablesIn t))
   total-is = head-facts (tablesIn t) (rule-facts n m t h .of-head) .0
 
-  pub total-most : total (tablesIn t) ≤ 4096
+  pub total-most : total (tablesIn t) ≤ mostElements
   total-most = head-facts (tablesIn t) (rule-facts n m t h .of-head) .1
 
   -- the groups are the objects' parts

@@ -9,12 +9,13 @@
 --   table   0 its first entry  1 how many  2, 3 DEFAULT_VALUE's first byte and the one past it (0, 0: none)
 --   entry   0, 1 the number  2, 3 the text's first byte and the one past it
 -- A whole number takes two cells: 1 below zero, and its size. A decimal takes three: 1 below zero, its whole number, its power of ten.
-use Prim.Native.Nat.{ℕ, _+_, min}
+use Prim.Native.Nat.{ℕ, suc, _+_, min}
 use mathlib.Core.List.{List, [], _∷_}
 use mathlib.Core.Bool.{Bool, not}
 use lib.Dec.{eqb}
 use lib.IntN.{ℤ}
 use Rattle.number.specs.Decimal.{Scaled}
+use Rattle.number.specs.Most.{mostObjects, mostMethods, mostTables, mostEntries, mostGroups, mostPoints}
 use Rattle.number.specs.Signed.{signedOf}
 use Rattle.convert.specs.declared.method.Coefficients.{Coefficients}
 use Rattle.records.specs.Records.{Sec, count, slot}
@@ -42,11 +43,11 @@ entrySection = 5
 unfoldable pub tableSections : List Sec
 tableSections =
     record { width = 3; most = 1 }
-    ∷ record { width = 3; most = 512 }
-    ∷ record { width = 19; most = 1536 }
-    ∷ record { width = 10; most = 128 }
-    ∷ record { width = 4; most = 128 }
-    ∷ record { width = 4; most = 1024 }
+    ∷ record { width = 3; most = mostObjects }
+    ∷ record { width = 19; most = mostGroups }
+    ∷ record { width = 10; most = mostMethods }
+    ∷ record { width = 4; most = mostTables }
+    ∷ record { width = 4; most = mostEntries }
     ∷ []
 
 -- what can be asked of tables: how many records a section has, and number k of record i of section j
@@ -62,9 +63,9 @@ tablesIn t = record { counts = λ j. countIn t (sectionIn tableSections j); slot
 
 -- ---- the fields by name. A number past every capacity reads as the first past it, so that nothing grows too large.
 
--- one past "4,096 elements in all objects"; one past "1 MiB of image"; one past "10^9"
+-- one past the most points; one past "1 MiB of image"; one past "10^9"
 abbrev pub pastPoints : ℕ
-pastPoints = 4097
+pastPoints = suc mostPoints
 
 abbrev pub pastImage : ℕ
 pastImage = 1048577

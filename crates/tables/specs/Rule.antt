@@ -7,7 +7,8 @@ use mathlib.Core.Bool.{Bool, true, false, cond, not, _&&_, _||_}
 use lib.Dec.{eqb, ltb, leb}
 use lib.IntN.{pos}
 use lib.ListN.{length, getD}
-use Rattle.cell.specs.Kind.{isType, shapeOf}
+use Rattle.number.specs.Most.{mostElements, mostPoints}
+use Rattle.cell.specs.Kind.{UBYTE, SLONG, shapeOf}
 use Rattle.cell.specs.Mask.{maskRule}
 use Rattle.convert.specs.Limit.{atMost}
 use Rattle.convert.specs.Method.{soundMethod, identicalOf}
@@ -108,7 +109,7 @@ module _ (T : Tables) where
     -- a part that is stored has points; points and room are equal: parts are packed
     unfoldable pub pointsRule : Bool
     pointsRule =
-        leb 1 (x T g) && leb (x T g) 4096 && leb 1 (y T g) && leb (y T g) 4096
+        leb 1 (x T g) && leb (x T g) mostPoints && leb 1 (y T g) && leb (y T g) mostPoints
         && eqb (wide T g) (x T g) && eqb (high T g) (y T g)
 
     -- "each stored count inside the image"; where there is none, both numbers are zero
@@ -170,7 +171,7 @@ module _ (T : Tables) where
   unfoldable pub headRule : Bool
   headRule =
       eqb (T .counts headSection) 1 && eqb (T .slots headSection 0 0) 0 && eqb (T .slots headSection 0 1) 0
-      && eqb (total T) (sumBelow (T .counts groupSection) (elements T)) && leb (total T) 4096 && eqb (T .counts groupSection) (T .counts objectSection * 3)
+      && eqb (total T) (sumBelow (T .counts groupSection) (elements T)) && leb (total T) mostElements && eqb (T .counts groupSection) (T .counts objectSection * 3)
 
   unfoldable pub ruled : ℕ → ℕ → Bool
   ruled n m =

@@ -12,6 +12,7 @@ use Rattle.text.specs.Answer as piece
 use Rattle.text.specs.Answer.{given}
 use Rattle.text.proofs.SkipWithin.{Reaches, skip-block-within}
 use Rattle.text.proofs.Within.{by-test, and-left, and-right, or-case}
+use Rattle.number.specs.Most.{mostObjects}
 use Rattle.words.specs.Kind as word
 use Rattle.words.specs.Class.{classAt}
 use Rattle.records.specs.Records.{widthOf, mostOf, recordsOf, count, slot, add, empty}
@@ -357,7 +358,7 @@ module _ (qs : List Param) (d d₁ d′ : Records) (s : Sound d) (l : Left qs ax
     spare : count d axis < mostOf sections axis
     unfolding sections
     spare =
-        let f : count d object ≤ 512 = fit-few sections d object (s .good) in
+        let f : count d object ≤ mostObjects = fit-few sections d object (s .good) in
         omega (arith, s .room, axes-most (current d object 4))
 
     axes-more : count d′ axis ≡ suc (count d axis)

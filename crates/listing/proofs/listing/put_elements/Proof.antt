@@ -1,3 +1,4 @@
+use Rattle.number.specs.Most.{mostElements}
 use Rattle.listing.proofs.listing.put_elements.Statement.{statement}
 use Rattle.listing.proofs.listing.put_elements.Tie as tie
 use Prim.Native.Nat.{ℕ, _+_, _-_, _<_}
@@ -22,7 +23,7 @@ ahead c h =
     upto-left (s .x .now) (s .t .now) (columns (s .raw .now) (s .state .now) (s .first .now) (s .second .now)) (c .elements-of .result) (omega arith) (c .elements-of .ensures) h (c .before .before .loop .inv)
 
 -- and there are few lines
-few : (c : tie.After-elements-of Inv-loop μ-loop) → c .before .before .loop .i < c .elements-of .result → c .before .before .loop .k < 4096
+few : (c : tie.After-elements-of Inv-loop μ-loop) → c .before .before .loop .i < c .elements-of .result → c .before .before .loop .k < mostElements
 few c l =
     let s = c .before .before .before .before .before .before .before .before in
     let h = ahead c l in

@@ -1,6 +1,6 @@
 // Reads the descriptions of its input and prints a line for each: how many records it has, or its refusal's number and place.
 // A line `====` parts two descriptions; the line ends before and after it belong to it. The last description may have one after it too.
-use grammar::read::read;
+use engine::read::read;
 use grammar::state::ReadAnswer;
 use grammar::view::AXIS;
 use grammar::view::ENTRY;

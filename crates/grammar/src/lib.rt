@@ -1,7 +1,5 @@
-// The grammar: rows as data, and one engine that reads a description into records, a token a step.
-mod keyword;
+// The grammar: what a token does, defined; what can be asked of the records, names, and parameters.
 pub mod names;
-mod parameter;
-pub mod read;
+pub mod parameter;
 pub mod state;
 pub mod view;

@@ -23,7 +23,7 @@ use Rattle.look.specs.Told.{after}
 use Rattle.look.specs.declared.call.CallAnswer.the-variants as call
 use Rattle.look.proofs.CheckLaws.{checked-refused, checked-passed, group-is}
 use Rattle.list.proofs.StandLaws.{standing-refused, standing-passed, stands-so}
-use Rattle.list.proofs.RefreshLaws.{refreshed-all}
+use Rattle.afresh.proofs.RefreshLaws.{refreshed-all}
 use Rattle.look.proofs.RoomLaws.{lines-hold}
 
 -- ---- whether a list holds every element

@@ -22,8 +22,8 @@ use Rattle.tables.specs.Group.{elements, bytes, placeOf}
 use Rattle.look.specs.declared.element.Line.{Line}
 use Rattle.look.specs.Element.{means, rawIn, lineWith, lineOf, shares, touched}
 use Rattle.look.specs.Calls.{Kept, room, groups, remade, refreshed, lineAt, withImage}
-use Rattle.list.proofs.LineLaws.{fresh-made, fresh-else, fresh-past, length-fresh}
-use Rattle.list.proofs.RefreshLaws.{refreshed-all}
+use Rattle.afresh.proofs.LineLaws.{fresh-made, fresh-else, fresh-past, length-fresh}
+use Rattle.afresh.proofs.RefreshLaws.{refreshed-all}
 
 -- two images of one length that agree at every place outside lo .. hi
 pub record SameOutside (I J : List ℕ) (lo hi : ℕ) : Type 0 where

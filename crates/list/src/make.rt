@@ -1,5 +1,5 @@
 // Making a list.
-use crate::refresh::refresh;
+use afresh::refresh::refresh;
 use look::call::CallAnswer;
 use look::check::check;
 use look::room::is_enough;

@@ -1,5 +1,5 @@
 // An accepted write: the image's bytes and the lines that share one with them.
-use crate::refresh::refresh;
+use afresh::refresh::refresh;
 use cell::raw::write_raw;
 use tables::group::bytes_of;
 use tables::group::is_first;

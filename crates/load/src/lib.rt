@@ -1,6 +1,6 @@
 // The whole load: a description read, judged and turned into tables, or refused.
 use build::build;
-use grammar::read::read;
+use engine::read::read;
 use grammar::state::ReadAnswer;
 use grammar::view::ROOM;
 use methods::Converted;

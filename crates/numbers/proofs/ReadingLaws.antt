@@ -20,7 +20,7 @@ use Rattle.look.specs.Calls.{Reading}
 use Rattle.look.specs.Told.{toldRead}
 use Rattle.look.specs.declared.read.ReadAnswer.{ReadAnswer}
 use Rattle.look.specs.declared.read.ReadAnswer.the-variants as read
-use Rattle.list.proofs.RefreshLaws.{put-past}
+use Rattle.afresh.proofs.RefreshLaws.{put-past}
 use Rattle.look.specs.Lines.{laidOver}
 use Rattle.numbers.specs.Numbers.{kindShown, numberShown, fiveOf, readCall, readTold}
 

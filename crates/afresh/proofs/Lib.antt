@@ -1,0 +1,4 @@
+-- Laws that belong to no one function.
+pub mod LineLaws
+pub mod ApartLaws
+pub mod RefreshLaws

@@ -1,7 +1,0 @@
--- `list::apart::holds_all` meets its contract. Assumes nothing.
-use Rattle.list.proofs.apart.holds_all.Statement.{statement}
-use Rattle.list.proofs.apart.holds_all.Tie as tie
-use Rattle.list.proofs.ApartLaws.{aparts}
-
-pub holds-all-spec : {M : Type 1} → statement M
-holds-all-spec = tie.close (tie.spec (λ c. search aparts))

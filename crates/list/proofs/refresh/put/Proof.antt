@@ -1,7 +1,0 @@
--- `list::refresh::put` meets its contract. Assumes nothing.
-use Rattle.list.proofs.refresh.put.Statement.{statement}
-use Rattle.list.proofs.refresh.put.Tie as tie
-use Rattle.list.proofs.RefreshLaws.{puts}
-
-pub put-spec : {M : Type 1} → statement M
-put-spec = tie.close (tie.spec (λ c. search puts) (λ c. search puts) (λ c. search puts) (λ c. search puts) (λ c. search puts))

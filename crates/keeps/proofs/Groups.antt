@@ -13,7 +13,7 @@ use Rattle.number.specs.Decimal.{Scaled}
 use Rattle.text.specs.Bytes.{spells}
 use Rattle.text.proofs.Within.{and-left, and-right, by-test}
 use Rattle.number.specs.Most.{mostElements, mostPoints}
-use Rattle.cell.specs.Kind.{shapeOf, shapes}
+use Rattle.cell.specs.Kind.{shapeOf, shapes, isType}
 use Rattle.cell.specs.Mask.{maskRule}
 use Rattle.convert.specs.Limit.{atMost}
 use Rattle.records.specs.Records.{count, slot}

@@ -10,7 +10,7 @@ use lib.Dec.{eqb, leb}
 use lib.ListN.{getD, replicate}
 use Rattle.number.specs.Decimal.{Scaled}
 use Rattle.number.specs.Most.{mostPoints}
-use Rattle.cell.specs.Kind.{shapeOf}
+use Rattle.cell.specs.Kind.{shapeOf, isType}
 use Rattle.cell.specs.Mask.{maskRule}
 use Rattle.convert.specs.Limit.{atMost}
 use Rattle.tables.specs.Form.{groupSection, methodSection, Tables, kind, place, x, y, wide, high, walk, methodOf, mask, counter, counterPlace, limit}

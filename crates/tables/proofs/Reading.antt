@@ -13,7 +13,7 @@ use native.Mathlib.Nat.{mul-le-mul-left, mul-suc, zero-mul}
 use borrow.Author.Tests.{eqb-true, leb-true, ne-eqb, eq-eqb}
 use lib.Dec.{eqb, leb, ltb}
 use Rattle.number.specs.Most.{mostElements, mostPoints}
-use Rattle.cell.specs.Kind.{shapeOf}
+use Rattle.cell.specs.Kind.{shapeOf, isType}
 use Rattle.cell.specs.Mask.{maskRule}
 use Rattle.rows.specs.Codes.{MEASUREMENT}
 use Rattle.tables.specs.Form.{headSection, objectSection, groupSection, methodSection, tableSection, entrySection, Tables, tablesIn, total, kind, place, x, y, wide, high, walk, methodOf, mask, forbidden, counter, counterPlace}

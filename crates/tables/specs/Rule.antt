@@ -1,14 +1,14 @@
 -- "Table rule: every reference below its table's count, counts within capacity, each element's bytes and each stored count inside the image,
 -- conversions and masks as above, limits in order, text places inside the description, no unused field other than zero."
 -- n is the length of the description, m that of the image.
-use Prim.Native.Nat.{ℕ, zero, suc, _+_, _*_, _-_, _%_, _^_}
+use Prim.Native.Nat.{ℕ, _+_, _*_, _-_, _%_, _^_}
 use mathlib.Core.List.{List}
 use mathlib.Core.Bool.{Bool, true, false, cond, not, _&&_, _||_}
 use lib.Dec.{eqb, ltb, leb}
 use lib.IntN.{pos}
 use lib.ListN.{length, getD}
 use Rattle.number.specs.Most.{mostElements, mostPoints}
-use Rattle.cell.specs.Kind.{UBYTE, SLONG, shapeOf}
+use Rattle.cell.specs.Kind.{isType, shapeOf}
 use Rattle.cell.specs.Mask.{maskRule}
 use Rattle.convert.specs.Limit.{atMost}
 use Rattle.convert.specs.Method.{soundMethod, identicalOf}

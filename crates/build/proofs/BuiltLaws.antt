@@ -17,6 +17,7 @@ use Rattle.records.specs.Cells.{room, encode, sectionIn, countIn}
 use Rattle.records.proofs.Encode.{Good, Wide, fit-few, none-good, none-encode}
 use Rattle.rows.specs.Codes.{TAB-VERB}
 use Rattle.rows.specs.Sections as records
+use Rattle.rows.specs.Slots.{conversion-type}
 use Rattle.grammar.specs.Move.{View, view, viewIn}
 use Rattle.tables.specs.Form.{tableSections, headSection, objectSection, groupSection, methodSection, tableSection, entrySection}
 use Rattle.build.specs.Build.{rowsBelow, objectRow, meaning, limitCells, xPart, yPart, valuesPart, xRow, yRow, valuesRow, groupsBelow, tableNumber, verbalRow, fractionRow, methodRow, tableRow, entryRow, built}
@@ -75,7 +76,7 @@ module _ (base : ℕ) (x : List ℕ) (v : View) (i : ℕ) (o : Known) where
 
 method-wide : (x : List ℕ) (v : View) (i : ℕ) → length (methodRow x v i) ≡ 10
 unfolding methodRow
-method-wide x v i = cond-long (eqb (v .slots records.method i 4) TAB-VERB && not (eqb (tableNumber x v i) 0)) 10 (verbalRow (tableNumber x v i)) (fractionRow v i) refl refl
+method-wide x v i = cond-long (eqb (v .slots records.method i conversion-type) TAB-VERB && not (eqb (tableNumber x v i) 0)) 10 (verbalRow (tableNumber x v i)) (fractionRow v i) refl refl
 
 -- ---- groups
 

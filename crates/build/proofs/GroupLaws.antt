@@ -10,6 +10,7 @@ use borrow.Author.Tests.{eq-eqb, ne-eqb}
 use lib.Dec.{eqb}
 use lib.ListN.{length}
 use Rattle.rows.specs.Sections.{object, layout}
+use Rattle.rows.specs.Slots.{block-code, fnc-values-mode, bit-mask-seen, bit-mask}
 use Rattle.grammar.specs.Move.{View}
 use Rattle.place.specs.declared.order.Layout.{Layout}
 use Rattle.place.specs.declared.rules.Need.{Need}
@@ -31,25 +32,25 @@ known-is image base x v i n l p f k a b c d e = rw (a, b, c, d, e)
 pub ruleset knowns = (known-is, needs)
 
 module _ (v : View) (i : ℕ) where
-  pub source-object : (k : ℕ) (s : Source) → k ≡ v .slots object i 3 → k ≡ 7 → s ≡ ofObject i → s ≡ xSource v i
+  pub source-object : (k : ℕ) (s : Source) → k ≡ v .slots object i block-code → k ≡ 7 → s ≡ ofObject i → s ≡ xSource v i
   source-object k s p h q = q ∙ rw (← p, eq-eqb k 7 h)
 
-  pub source-axis : (k a : ℕ) (s : Source) → k ≡ v .slots object i 3 → (k ≡ 7 → ⊥) → a ≡ axisAt v i 0 → s ≡ ofAxis a → s ≡ xSource v i
+  pub source-axis : (k a : ℕ) (s : Source) → k ≡ v .slots object i block-code → (k ≡ 7 → ⊥) → a ≡ axisAt v i 0 → s ≡ ofAxis a → s ≡ xSource v i
   source-axis k a s p h q r = r ∙ rw (← p, ne-eqb k 7 h, q)
 
-  pub walk-column : (l w m : ℕ) → w ≡ whatOf v i → m ≡ v .slots layout l 13 → (eqb w 18 && eqb m 11) ≡ true → 2 ≡ valuesWalk v i l
+  pub walk-column : (l w m : ℕ) → w ≡ whatOf v i → m ≡ v .slots layout l fnc-values-mode → (eqb w 18 && eqb m 11) ≡ true → 2 ≡ valuesWalk v i l
   unfolding valuesWalk
   walk-column l w m p q h = rw (← p, ← q, h)
 
-  pub walk-row : (l w m : ℕ) → w ≡ whatOf v i → m ≡ v .slots layout l 13 → (eqb w 18 && eqb m 11) ≡ false → 0 ≡ valuesWalk v i l
+  pub walk-row : (l w m : ℕ) → w ≡ whatOf v i → m ≡ v .slots layout l fnc-values-mode → (eqb w 18 && eqb m 11) ≡ false → 0 ≡ valuesWalk v i l
   unfolding valuesWalk
   walk-row l w m p q h = rw (← p, ← q, h)
 
-  pub mask-none : (h : ℕ) → h ≡ v .slots object i 21 → h ≡ 0 → 0 ≡ maskOf v i
+  pub mask-none : (h : ℕ) → h ≡ v .slots object i bit-mask-seen → h ≡ 0 → 0 ≡ maskOf v i
   unfolding maskOf
   mask-none h p e = rw (← p, eq-eqb h 0 e)
 
-  pub mask-some : (h m : ℕ) → h ≡ v .slots object i 21 → (h ≡ 0 → ⊥) → m ≡ v .slots object i 22 → m ≡ maskOf v i
+  pub mask-some : (h m : ℕ) → h ≡ v .slots object i bit-mask-seen → (h ≡ 0 → ⊥) → m ≡ v .slots object i bit-mask → m ≡ maskOf v i
   unfolding maskOf
   mask-some h m p e q = q ∙ rw (← p, ne-eqb h 0 e)
 

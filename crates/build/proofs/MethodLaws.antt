@@ -20,6 +20,7 @@ use Rattle.convert.specs.declared.method.MethodAnswer.{MethodAnswer}
 use Rattle.convert.specs.declared.method.MethodAnswer.the-variants as answer
 use Rattle.records.specs.Cells.{sectionIn, countIn, putIn}
 use Rattle.rows.specs.Sections.{method, table}
+use Rattle.rows.specs.Slots.{conversion-type, compu-tab-ref, compu-tab-ref-past}
 use Rattle.grammar.specs.Move.{View}
 use Rattle.grammar.specs.Parameter.{find, foundAt}
 use Rattle.grammar.specs.declared.names.Found.{Found}
@@ -61,7 +62,7 @@ no-whole a n k y p = p ∙ rw y
 
 pub ruleset whole-ones = (some-whole, no-whole, needs)
 
-module _ (v : View) (i k : ℕ) (p : k ≡ v .slots method i 4) where
+module _ (v : View) (i k : ℕ) (p : k ≡ v .slots method i conversion-type) where
   pub word-linear : k ≡ 20 → 20 ≡ conversionOf v i
   unfolding conversionOf
   word-linear h = rw (← p, eq-eqb k 20 h)
@@ -95,7 +96,7 @@ fraction-is v i c m a k u u₁ u₂ u₃ u₄ pc pa pk p o q r s =
 
 pub ruleset fractions = (fraction-is, needs)
 
-pub table-number-is : (x : List ℕ) (v : View) (i a e n : ℕ) (f : Found) → a ≡ v .slots method i 26 → e ≡ v .slots method i 27 → foundAt f ≡ find x v table a e → n ≡ foundAt f → n ≡ tableNumber x v i
+pub table-number-is : (x : List ℕ) (v : View) (i a e n : ℕ) (f : Found) → a ≡ v .slots method i compu-tab-ref → e ≡ v .slots method i compu-tab-ref-past → foundAt f ≡ find x v table a e → n ≡ foundAt f → n ≡ tableNumber x v i
 table-number-is x v i a e n f p q r s = s ∙ r ∙ rw (p, q)
 
 pub ruleset table-numbers = (table-number-is, needs)
@@ -106,7 +107,7 @@ verbal-is n m u u₁ u₂ u₃ u₄ p o q r s = row-of-ten 22 n m (replicate 8 0
 
 pub ruleset verbals = (verbal-is, needs)
 
-module _ (x : List ℕ) (v : View) (i k n : ℕ) (p : k ≡ v .slots method i 4) (q : n ≡ tableNumber x v i) (u w : List ℕ) where
+module _ (x : List ℕ) (v : View) (i k n : ℕ) (p : k ≡ v .slots method i conversion-type) (q : n ≡ tableNumber x v i) (u w : List ℕ) where
   pub method-verbal : (eqb k 22 && not (eqb n 0)) ≡ true → w ≡ rowIn u form.methodSection (verbalRow n) → w ≡ rowIn u form.methodSection (methodRow x v i)
   unfolding methodRow
   method-verbal h z = z ∙ rw (← p, ← q, h)

@@ -6,6 +6,7 @@ use mathlib.Core.Bool.{cond}
 use borrow.Author.Needs.{needs}
 use borrow.Author.Tests.{eq-eqb, ne-eqb}
 use Rattle.rows.specs.Sections.{object}
+use Rattle.rows.specs.Slots.{own-name, own-name-past, block-code, object-type}
 use Rattle.grammar.specs.Move.{View}
 use Rattle.tables.specs.Form as form
 use Rattle.build.specs.Build.{typeOf, whatOf, objectRow}
@@ -31,12 +32,12 @@ module _ (k : ℕ) where
 pub ruleset types = (type-block, type-curve, type-map, type-value, needs)
 
 -- k is the object's class
-module _ (v : View) (i k : ℕ) (p : k ≡ v .slots object i 3) where
+module _ (v : View) (i k : ℕ) (p : k ≡ v .slots object i block-code) where
   pub what-axis : k ≡ 7 → 7 ≡ whatOf v i
   unfolding whatOf
   what-axis h = rw (← p, eq-eqb k 7 h)
 
-  pub what-type : (y r : ℕ) → (k ≡ 7 → ⊥) → k ≡ 8 → y ≡ v .slots object i 4 → r ≡ typeOf y → r ≡ whatOf v i
+  pub what-type : (y r : ℕ) → (k ≡ 7 → ⊥) → k ≡ 8 → y ≡ v .slots object i object-type → r ≡ typeOf y → r ≡ whatOf v i
   unfolding whatOf
   what-type y r a h q z = z ∙ rw (← p, ne-eqb k 7 a, eq-eqb k 8 h, q)
 
@@ -46,7 +47,7 @@ module _ (v : View) (i k : ℕ) (p : k ≡ v .slots object i 3) where
 
 pub ruleset whats = (what-axis, what-type, what-measured, needs)
 
-pub object-is : (v : View) (i a b c : ℕ) (u w : List ℕ) → a ≡ v .slots object i 0 → b ≡ v .slots object i 1 → c ≡ whatOf v i → w ≡ rowIn u form.objectSection (a ∷ b ∷ c ∷ []) → w ≡ rowIn u form.objectSection (objectRow v i)
+pub object-is : (v : View) (i a b c : ℕ) (u w : List ℕ) → a ≡ v .slots object i own-name → b ≡ v .slots object i own-name-past → c ≡ whatOf v i → w ≡ rowIn u form.objectSection (a ∷ b ∷ c ∷ []) → w ≡ rowIn u form.objectSection (objectRow v i)
 object-is v i a b c u w p q r z = z ∙ rw (p, q, r)
 
 pub ruleset objects = (object-is, needs)

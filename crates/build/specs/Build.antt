@@ -12,6 +12,7 @@ use Rattle.convert.specs.Method.{identicalOf}
 use Rattle.convert.specs.declared.method.Coefficients.{Coefficients}
 use Rattle.rows.specs.Codes.{AXIS-PTS, CHARACTERISTIC, MEASUREMENT, VALUE, VAL-BLK, CURVE, MAP, COLUMN-DIR, INDEX-DECR, IDENTICAL, LINEAR, RAT-FUNC, TAB-VERB}
 use Rattle.rows.specs.Sections.{file, method, table, entry, layout, object, axis}
+use Rattle.rows.specs.Slots.{own-name, own-name-past, first-held, block-code, conversion-type, compu-tab-ref, compu-tab-ref-past, default-value, default-value-past, entry-sign, entry-size, entry-text, entry-text-past, fnc-values-mode, axis-pts-x-order, axis-pts-y-order, object-type, object-conversion, object-lower-limit, object-upper-limit, bit-mask-seen, bit-mask, object-read-only-seen, axis-conversion, axis-lower-limit, axis-upper-limit, axis-read-only-seen}
 use Rattle.grammar.specs.Move.{View, decimalSlots}
 use Rattle.grammar.specs.Parameter.{find}
 use Rattle.methods.specs.Methods.{coefficients}
@@ -38,19 +39,19 @@ typeOf k = cond (eqb k VAL-BLK) VAL-BLK (cond (eqb k CURVE) CURVE (cond (eqb k M
 
 -- what an object is, by its word's code
 unfoldable pub whatOf : View → ℕ → ℕ
-whatOf v i = cond (eqb (v .slots object i 3) AXIS-PTS) AXIS-PTS (cond (eqb (v .slots object i 3) CHARACTERISTIC) (typeOf (v .slots object i 4)) MEASUREMENT)
+whatOf v i = cond (eqb (v .slots object i block-code) AXIS-PTS) AXIS-PTS (cond (eqb (v .slots object i block-code) CHARACTERISTIC) (typeOf (v .slots object i object-type)) MEASUREMENT)
 
 abbrev pub objectRow : View → ℕ → List ℕ
-objectRow v i = v .slots object i 0 ∷ v .slots object i 1 ∷ whatOf v i ∷ []
+objectRow v i = v .slots object i own-name ∷ v .slots object i own-name-past ∷ whatOf v i ∷ []
 
 -- ---- parts. Where a part's conversion, limits and READ_ONLY stand: section, record, slots
 
 -- "A stored axis of a CURVE or MAP has its AXIS_DESCR's conversion, limits and READ_ONLY; the object's own and its mask are for the values."
 abbrev pub ofObject : ℕ → Source
-ofObject i = record { sec = object; number = i; conversion = 8; lower = 13; upper = 16; only = 23 }
+ofObject i = record { sec = object; number = i; conversion = object-conversion; lower = object-lower-limit; upper = object-upper-limit; only = object-read-only-seen }
 
 abbrev pub ofAxis : ℕ → Source
-ofAxis a = record { sec = axis; number = a; conversion = 4; lower = 7; upper = 10; only = 16 }
+ofAxis a = record { sec = axis; number = a; conversion = axis-conversion; lower = axis-lower-limit; upper = axis-upper-limit; only = axis-read-only-seen }
 
 -- "the word NO_COMPU_METHOD" is 0, else the method's number and one more
 unfoldable pub methodNumber : List ℕ → View → ℕ → ℕ → ℕ
@@ -93,29 +94,29 @@ axisWalk word = flag (eqb word INDEX-DECR)
 
 -- (l is the number of the object's layout)
 unfoldable pub valuesWalk : View → ℕ → ℕ → ℕ
-valuesWalk v i l = cond (eqb (whatOf v i) MAP && eqb (v .slots layout l 13) COLUMN-DIR) 2 0
+valuesWalk v i l = cond (eqb (whatOf v i) MAP && eqb (v .slots layout l fnc-values-mode) COLUMN-DIR) 2 0
 
 -- a BIT_MASK, 0 where there is none
 unfoldable pub maskOf : View → ℕ → ℕ
-maskOf v i = cond (eqb (v .slots object i 21) 0) 0 (v .slots object i 22)
+maskOf v i = cond (eqb (v .slots object i bit-mask-seen) 0) 0 (v .slots object i bit-mask)
 
 -- x's source: an AXIS_PTS has its own conversion, limits and READ_ONLY
 abbrev pub xSource : View → ℕ → Source
-xSource v i = cond (eqb (v .slots object i 3) AXIS-PTS) (ofObject i) (ofAxis (axisAt v i 0))
+xSource v i = cond (eqb (v .slots object i block-code) AXIS-PTS) (ofObject i) (ofAxis (axisAt v i 0))
 
 -- an object's parts, by what is known of it: what it needs, its layout, where its parts stand, its byte order and its layout's number
 module _ (base : ℕ) (x : List ℕ) (v : View) (i : ℕ) (o : Known) where
   unfoldable pub xPart : List ℕ
   xPart =
       cond (o .need .x .stored)
-      (standingCells (o .layout .x .kind) (o .first) (o .places .x - base) (o .places .cx) 1 (axisWalk (v .slots layout (o .number) 18))
+      (standingCells (o .layout .x .kind) (o .first) (o .places .x - base) (o .places .cx) 1 (axisWalk (v .slots layout (o .number) axis-pts-x-order))
       ++ (meaning x v (xSource v i) 0 false ++ counterCells (o .layout .nx) (o .places .nx - base)))
       noPartCells
 
   unfoldable pub yPart : List ℕ
   yPart =
       cond (o .need .y .stored)
-      (standingCells (o .layout .y .kind) (o .first) (o .places .y - base) (o .places .cy) 1 (axisWalk (v .slots layout (o .number) 23))
+      (standingCells (o .layout .y .kind) (o .first) (o .places .y - base) (o .places .cy) 1 (axisWalk (v .slots layout (o .number) axis-pts-y-order))
       ++ (meaning x v (ofAxis (axisAt v i 1)) 0 false ++ counterCells (o .layout .ny) (o .places .ny - base)))
       noPartCells
 
@@ -170,7 +171,7 @@ coefficientsIn (refused n) = identicalOf
 
 -- IDENTICAL, LINEAR or RAT_FUNC
 unfoldable pub conversionOf : View → ℕ → ℕ
-conversionOf v i = cond (eqb (v .slots method i 4) LINEAR) LINEAR (cond (eqb (v .slots method i 4) RAT-FUNC) RAT-FUNC IDENTICAL)
+conversionOf v i = cond (eqb (v .slots method i conversion-type) LINEAR) LINEAR (cond (eqb (v .slots method i conversion-type) RAT-FUNC) RAT-FUNC IDENTICAL)
 
 abbrev pub coefficientCells : Coefficients → List ℕ
 coefficientCells k = numberCells (k .b) ++ (numberCells (k .c) ++ (numberCells (k .e) ++ numberCells (k .f)))
@@ -180,26 +181,26 @@ fractionRow v i = conversionOf v i ∷ coefficientCells (coefficientsIn (coeffic
 
 -- "TAB_VERB with COMPU_TAB_REF to a COMPU_VTAB": the table's number and one more
 abbrev pub tableNumber : List ℕ → View → ℕ → ℕ
-tableNumber x v i = find x v table (v .slots method i 26) (v .slots method i 27)
+tableNumber x v i = find x v table (v .slots method i compu-tab-ref) (v .slots method i compu-tab-ref-past)
 
 -- the row of a method with the verbal table of a number
 abbrev pub verbalRow : ℕ → List ℕ
 verbalRow n = TAB-VERB ∷ replicate 8 0 ++ (n ∷ [])
 
 unfoldable pub methodRow : List ℕ → View → ℕ → List ℕ
-methodRow x v i = cond (eqb (v .slots method i 4) TAB-VERB && not (eqb (tableNumber x v i) 0)) (verbalRow (tableNumber x v i)) (fractionRow v i)
+methodRow x v i = cond (eqb (v .slots method i conversion-type) TAB-VERB && not (eqb (tableNumber x v i) 0)) (verbalRow (tableNumber x v i)) (fractionRow v i)
 
 -- ---- verbal tables
 
 -- a table's entries go up to the next table's first
 unfoldable pub entriesEnd : View → ℕ → ℕ
-entriesEnd v i = cond (ltb (i + 1) (v .counts table)) (v .slots table (i + 1) 2) (v .counts entry)
+entriesEnd v i = cond (ltb (i + 1) (v .counts table)) (v .slots table (i + 1) first-held) (v .counts entry)
 
 abbrev pub tableRow : View → ℕ → List ℕ
-tableRow v i = v .slots table i 2 ∷ (entriesEnd v i - v .slots table i 2) ∷ v .slots table i 7 ∷ v .slots table i 8 ∷ []
+tableRow v i = v .slots table i first-held ∷ (entriesEnd v i - v .slots table i first-held) ∷ v .slots table i default-value ∷ v .slots table i default-value-past ∷ []
 
 abbrev pub entryRow : View → ℕ → List ℕ
-entryRow v i = min (v .slots entry i 0) 1 ∷ v .slots entry i 1 ∷ v .slots entry i 2 ∷ v .slots entry i 3 ∷ []
+entryRow v i = min (v .slots entry i entry-sign) 1 ∷ v .slots entry i entry-size ∷ v .slots entry i entry-text ∷ v .slots entry i entry-text-past ∷ []
 
 -- ---- all of it: head, objects, groups, methods, tables, entries
 unfoldable pub built : List ℕ → ℕ → List ℕ → View → ℕ → List (List (List ℕ))

@@ -19,6 +19,20 @@ use objects::layout::layout_of;
 use objects::need::axis_at;
 use objects::need::need_of;
 use objects::object::places_of;
+use rows::slots::AXIS_CONVERSION;
+use rows::slots::AXIS_LOWER_LIMIT;
+use rows::slots::AXIS_PTS_X_ORDER;
+use rows::slots::AXIS_PTS_Y_ORDER;
+use rows::slots::AXIS_READ_ONLY_SEEN;
+use rows::slots::AXIS_UPPER_LIMIT;
+use rows::slots::BIT_MASK;
+use rows::slots::BIT_MASK_SEEN;
+use rows::slots::BLOCK_CODE;
+use rows::slots::FNC_VALUES_MODE;
+use rows::slots::OBJECT_CONVERSION;
+use rows::slots::OBJECT_LOWER_LIMIT;
+use rows::slots::OBJECT_READ_ONLY_SEEN;
+use rows::slots::OBJECT_UPPER_LIMIT;
 use words::codes::AXIS_PTS;
 use words::codes::COLUMN_DIR;
 use words::codes::INDEX_DECR;
@@ -61,10 +75,10 @@ fn of_object(i: u16) -> Source
     Source {
         sec: OBJECT,
         number: i,
-        conversion: 8,
-        lower: 13,
-        upper: 16,
-        only: 23,
+        conversion: OBJECT_CONVERSION,
+        lower: OBJECT_LOWER_LIMIT,
+        upper: OBJECT_UPPER_LIMIT,
+        only: OBJECT_READ_ONLY_SEEN,
     }
 }
 
@@ -75,10 +89,10 @@ fn of_axis(a: u16) -> Source
     Source {
         sec: AXIS,
         number: a,
-        conversion: 4,
-        lower: 7,
-        upper: 10,
-        only: 16,
+        conversion: AXIS_CONVERSION,
+        lower: AXIS_LOWER_LIMIT,
+        upper: AXIS_UPPER_LIMIT,
+        only: AXIS_READ_ONLY_SEEN,
     }
 }
 
@@ -86,7 +100,7 @@ fn of_axis(a: u16) -> Source
 fn x_source(t: &[u64], i: u16) -> Source
     ensures { λ r. ⌜ r ≡ xSource (viewIn (now (t .entry))) i ⌝ }
 {
-    if slot_of(t, OBJECT, i, 3) == (AXIS_PTS as u64) {
+    if slot_of(t, OBJECT, i, BLOCK_CODE) == (AXIS_PTS as u64) {
         return of_object(i);
     }
     of_axis(axis_at(t, i, 0))
@@ -97,7 +111,7 @@ fn values_walk(t: &[u64], i: u16, l: u16) -> u64
     ensures { λ r. ⌜ r ≡ valuesWalk (viewIn (now (t .entry))) i l ⌝ }
 {
     let what = what_of(t, i);
-    let mode = slot_of(t, LAYOUT, l, 13);
+    let mode = slot_of(t, LAYOUT, l, FNC_VALUES_MODE);
     if (what == (MAP as u64)) & (mode == (COLUMN_DIR as u64)) {
         return Y_FASTEST;
     }
@@ -108,10 +122,10 @@ fn values_walk(t: &[u64], i: u16, l: u16) -> u64
 fn mask_of(t: &[u64], i: u16) -> u64
     ensures { λ r. ⌜ r ≡ maskOf (viewIn (now (t .entry))) i ⌝ }
 {
-    if slot_of(t, OBJECT, i, 21) == 0 {
+    if slot_of(t, OBJECT, i, BIT_MASK_SEEN) == 0 {
         return 0;
     }
-    slot_of(t, OBJECT, i, 22)
+    slot_of(t, OBJECT, i, BIT_MASK)
 }
 
 // Where an axis stands, with its index mode in slot k of layout l.
@@ -151,7 +165,16 @@ fn put_x(u: &mut [u64], x: &[u8], t: &[u64], base: u32, i: u16, o: Known)
         let entry = layout.x;
         let counter = layout.nx;
         let p = o.places;
-        let spot = axis_spot(t, entry.kind, o.first, p.x, base, p.cx, o.number, 18);
+        let spot = axis_spot(
+            t,
+            entry.kind,
+            o.first,
+            p.x,
+            base,
+            p.cx,
+            o.number,
+            AXIS_PTS_X_ORDER,
+        );
         let source = x_source(t, i);
         let at = minus(p.nx, base as u64);
         put_axis(u, x, t, spot, source, counter, at);
@@ -171,7 +194,16 @@ fn put_y(u: &mut [u64], x: &[u8], t: &[u64], base: u32, i: u16, o: Known)
         let entry = layout.y;
         let counter = layout.ny;
         let p = o.places;
-        let spot = axis_spot(t, entry.kind, o.first, p.y, base, p.cy, o.number, 23);
+        let spot = axis_spot(
+            t,
+            entry.kind,
+            o.first,
+            p.y,
+            base,
+            p.cy,
+            o.number,
+            AXIS_PTS_Y_ORDER,
+        );
         let source = of_axis(axis_at(t, i, 1));
         let at = minus(p.ny, base as u64);
         put_axis(u, x, t, spot, source, counter, at);

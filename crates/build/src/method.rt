@@ -14,6 +14,9 @@ use grammar::view::TABLE;
 use grammar::view::count_of;
 use grammar::view::slot_of;
 use methods::coefficients_of;
+use rows::slots::COMPU_TAB_REF;
+use rows::slots::COMPU_TAB_REF_PAST;
+use rows::slots::CONVERSION_TYPE;
 use tables::form::put_slot;
 use words::codes::IDENTICAL;
 use words::codes::LINEAR;
@@ -67,7 +70,7 @@ fn whole_of(a: MethodAnswer) -> Coefficients
 fn conversion_of(t: &[u64], i: u16) -> u64
     ensures { λ r. ⌜ r ≡ conversionOf (viewIn (now (t .entry))) i ⌝ }
 {
-    let word = slot_of(t, METHOD, i, 4);
+    let word = slot_of(t, METHOD, i, CONVERSION_TYPE);
     if word == (LINEAR as u64) {
         return LINEAR as u64;
     }
@@ -93,8 +96,8 @@ fn put_fraction(u: &mut [u64], t: &[u64], i: u16)
 fn table_number(x: &[u8], t: &[u64], i: u16) -> u64
     ensures { λ r. ⌜ r ≡ tableNumber (now (x .entry)) (viewIn (now (t .entry))) i ⌝ }
 {
-    let a = slot_of(t, METHOD, i, 26) as usize;
-    let e = slot_of(t, METHOD, i, 27) as usize;
+    let a = slot_of(t, METHOD, i, COMPU_TAB_REF as u16) as usize;
+    let e = slot_of(t, METHOD, i, COMPU_TAB_REF_PAST) as usize;
     number_of(find(x, t, TABLE, a, e))
 }
 
@@ -112,7 +115,7 @@ fn put_verbal(u: &mut [u64], table: u64)
 fn put_method(u: &mut [u64], x: &[u8], t: &[u64], i: u16)
     ensures { λ _. ⌜ now (u .exit) ≡ rowIn (now (u .entry)) form.methodSection (methodRow (now (x .entry)) (viewIn (now (t .entry))) i) ⌝ }
 {
-    let word = slot_of(t, METHOD, i, 4);
+    let word = slot_of(t, METHOD, i, CONVERSION_TYPE);
     let table = table_number(x, t, i);
     if (word == (TAB_VERB as u64)) & (table != 0) {
         put_verbal(u, table);

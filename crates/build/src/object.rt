@@ -3,6 +3,10 @@ use crate::row::put_row_of_three;
 use grammar::view::OBJECT;
 use grammar::view::count_of;
 use grammar::view::slot_of;
+use rows::slots::BLOCK_CODE;
+use rows::slots::OBJECT_TYPE;
+use rows::slots::OWN_NAME;
+use rows::slots::OWN_NAME_PAST;
 use words::codes::AXIS_PTS;
 use words::codes::CHARACTERISTIC;
 use words::codes::CURVE;
@@ -37,12 +41,12 @@ fn type_of(kind: u64) -> u64
 pub fn what_of(t: &[u64], i: u16) -> u64
     ensures { λ r. ⌜ r ≡ whatOf (viewIn (now (t .entry))) i ⌝ }
 {
-    let class = slot_of(t, OBJECT, i, 3);
+    let class = slot_of(t, OBJECT, i, BLOCK_CODE);
     if class == (AXIS_PTS as u64) {
         return AXIS_PTS as u64;
     }
     if class == (CHARACTERISTIC as u64) {
-        return type_of(slot_of(t, OBJECT, i, 4));
+        return type_of(slot_of(t, OBJECT, i, OBJECT_TYPE));
     }
     MEASUREMENT as u64
 }
@@ -51,8 +55,8 @@ pub fn what_of(t: &[u64], i: u16) -> u64
 fn put_object(u: &mut [u64], t: &[u64], i: u16)
     ensures { λ _. ⌜ now (u .exit) ≡ rowIn (now (u .entry)) form.objectSection (objectRow (viewIn (now (t .entry))) i) ⌝ }
 {
-    let from = slot_of(t, OBJECT, i, 0);
-    let to = slot_of(t, OBJECT, i, 1);
+    let from = slot_of(t, OBJECT, i, OWN_NAME);
+    let to = slot_of(t, OBJECT, i, OWN_NAME_PAST);
     let what = what_of(t, i);
     put_row_of_three(u, tables::form::OBJECT, from, to, what);
 }

@@ -5,6 +5,13 @@ use grammar::view::ENTRY;
 use grammar::view::TABLE;
 use grammar::view::count_of;
 use grammar::view::slot_of;
+use rows::slots::DEFAULT_VALUE;
+use rows::slots::DEFAULT_VALUE_PAST;
+use rows::slots::ENTRY_SIGN;
+use rows::slots::ENTRY_SIZE;
+use rows::slots::ENTRY_TEXT;
+use rows::slots::ENTRY_TEXT_PAST;
+use rows::slots::FIRST_HELD;
 ghost use mathlib.Core.Path.{_≡_};
 ghost use Prim.Native.Nat.{min};
 ghost use Rattle.rows.specs.Sections.{table, entry};
@@ -20,7 +27,7 @@ fn entries_end(t: &[u64], i: u16) -> u64
     let count = count_of(t, TABLE);
     let next = (i as u32) + 1;
     if next < (count as u32) {
-        return slot_of(t, TABLE, next as u16, 2);
+        return slot_of(t, TABLE, next as u16, FIRST_HELD);
     }
     count_of(t, ENTRY) as u64
 }
@@ -29,10 +36,10 @@ fn entries_end(t: &[u64], i: u16) -> u64
 fn put_table(u: &mut [u64], t: &[u64], i: u16)
     ensures { λ _. ⌜ now (u .exit) ≡ rowIn (now (u .entry)) form.tableSection (tableRow (viewIn (now (t .entry))) i) ⌝ }
 {
-    let first = slot_of(t, TABLE, i, 2);
+    let first = slot_of(t, TABLE, i, FIRST_HELD);
     let many = minus(entries_end(t, i), first);
-    let from = slot_of(t, TABLE, i, 7);
-    let to = slot_of(t, TABLE, i, 8);
+    let from = slot_of(t, TABLE, i, DEFAULT_VALUE);
+    let to = slot_of(t, TABLE, i, DEFAULT_VALUE_PAST);
     put_row_of_four(u, tables::form::TABLE, first, many, from, to);
 }
 
@@ -59,10 +66,10 @@ fn least_one(n: u64) -> u64
 fn put_entry(u: &mut [u64], t: &[u64], i: u16)
     ensures { λ _. ⌜ now (u .exit) ≡ rowIn (now (u .entry)) form.entrySection (entryRow (viewIn (now (t .entry))) i) ⌝ }
 {
-    let sign = least_one(slot_of(t, ENTRY, i, 0));
-    let size = slot_of(t, ENTRY, i, 1);
-    let from = slot_of(t, ENTRY, i, 2);
-    let to = slot_of(t, ENTRY, i, 3);
+    let sign = least_one(slot_of(t, ENTRY, i, ENTRY_SIGN));
+    let size = slot_of(t, ENTRY, i, ENTRY_SIZE);
+    let from = slot_of(t, ENTRY, i, ENTRY_TEXT as u16);
+    let to = slot_of(t, ENTRY, i, ENTRY_TEXT_PAST);
     put_row_of_four(u, tables::form::ENTRY, sign, size, from, to);
 }
 

@@ -36,6 +36,7 @@ use rows::cells::ROW_WHEN;
 use rows::is_row;
 use rows::need_cell;
 use rows::row_cell;
+use rows::slots::OBJECT_TYPE;
 use text::cursor::Cursor;
 use text::cursor::Reach;
 use words::class::Class;
@@ -104,7 +105,7 @@ fn limit_of(t: &[u64], i: u8) -> u64
     ensures { λ r. ⌜ r ≡ limitOf (viewIn (now (t .entry))) i ⌝ }
 {
     if row_cell(i, ROW_ADDS) == AXIS {
-        return axes_of(current_of(t, OBJECT, 4));
+        return axes_of(current_of(t, OBJECT, OBJECT_TYPE));
     }
     1
 }

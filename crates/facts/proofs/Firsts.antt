@@ -13,6 +13,7 @@ use Rattle.text.proofs.Within.{by-test, or-case}
 use Rattle.records.specs.Records.{count, slot}
 use Rattle.records.proofs.Encode.{Good}
 use Rattle.rows.specs.Sections.{sections, table, entry}
+use Rattle.rows.specs.Slots.{first-held}
 use Rattle.rows.specs.Rows.{rows}
 use Rattle.rows.specs.Numbered.{rowAt, allParams, paramAt}
 use Rattle.grammar.specs.Move.{View, view, idle, writes, applied}
@@ -76,7 +77,7 @@ clear-keeping s x y z =
     (λ t e. by-side (slotOf s) (wideOf (kindOf s)) (or-case (ltb 2 (slotOf s)) _ (implied (eqb (secOf s) table) _ (none-kept (s .param)) (eq-eqb (secOf s) table (sym e)))))
 
 abbrev Firsts : List (List (List ℕ)) → Type 0
-Firsts d = (i : ℕ) → slot d table i 2 ≤ count d entry
+Firsts d = (i : ℕ) → slot d table i first-held ≤ count d entry
 
 module _ (n : ℕ) (s : State) (d : List (List (List ℕ))) (g : Good sections d) (inv : Firsts d) where
   cleared : (a : Act) → Clear a → Firsts (applied a d)
@@ -90,9 +91,9 @@ module _ (n : ℕ) (s : State) (d : List (List (List ℕ))) (g : Good sections d
       act : Act
       act = newRecord table 4 x y (count d entry) z
 
-      by-last : (b : Bool) → eqb (suc i) (count (applied act d) table) ≡ b → slot (applied act d) table i 2 ≤ count (applied act d) entry
+      by-last : (b : Bool) → eqb (suc i) (count (applied act d) table) ≡ b → slot (applied act d) table i first-held ≤ count (applied act d) entry
       by-last true q =
-          let h : slot (applied act d) table i 2 ≡ count d entry = written-slot act d i 2 g (eqb-true (suc i) (count (applied act d) table) q) (omega arith) (omega arith) in
+          let h : slot (applied act d) table i first-held ≡ count d entry = written-slot act d i 2 g (eqb-true (suc i) (count (applied act d) table) q) (omega arith) (omega arith) in
           omega (arith, more-records act d entry)
       by-last false q =
           rw (other-slot act d table i 2 (eqb-false (suc i) (count (applied act d) table) q)) (omega (arith, inv i, more-records act d entry))
@@ -117,5 +118,5 @@ module _ (n : ℕ) (s : State) (d : List (List (List ℕ))) (g : Good sections d
   }
 
 -- in every description that was read
-pub first-read : (x : List ℕ) (d : List (List (List ℕ))) → read x ≡ given d → (i : ℕ) → slot d table i 2 ≤ count d entry
+pub first-read : (x : List ℕ) (d : List (List (List ℕ))) → read x ≡ given d → (i : ℕ) → slot d table i first-held ≤ count d entry
 first-read x = read-has x (λ s. Firsts) Firsts (λ s d g w. steps (length x) s d g w) (λ s d g z w. w) (λ i. rw (start-slot table i 2) (omega arith))

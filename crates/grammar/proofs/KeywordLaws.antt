@@ -18,6 +18,8 @@ use Rattle.words.specs.Told.{toldClass}
 use Rattle.words.specs.declared.class.Class.{Class}
 use Rattle.words.specs.declared.class.Class.the-variants as class
 use Rattle.rows.specs.Codes.{FILE}
+use Rattle.rows.specs.Sections.{object}
+use Rattle.rows.specs.Slots.{object-type}
 use Rattle.rows.specs.Rows.{rows, needed}
 use Rattle.rows.specs.Numbered.{rowAt, firstParam, needAt}
 use Rattle.grammar.specs.Move.{View, current, state, items, begun, ended, finished, idle, went, refused, moved}
@@ -77,7 +79,7 @@ module _ (k : ℕ) where
 pub ruleset axed = (axes-map, axes-curve, axes-none, needs)
 
 module _ (v : View) (i j : ℕ) (pj : j ≡ rowAt i .adds) where
-  pub limit-axes : (r n : ℕ) → j ≡ 6 → n ≡ current v 5 4 → r ≡ axesOf n → r ≡ limitOf v i
+  pub limit-axes : (r n : ℕ) → j ≡ 6 → n ≡ current v object object-type → r ≡ axesOf n → r ≡ limitOf v i
   limit-axes r n h pn pr = rw (← pj, eq-eqb j 6 h, pr, pn)
 
   pub limit-one : (j ≡ 6 → ⊥) → 1 ≡ limitOf v i

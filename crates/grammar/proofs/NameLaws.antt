@@ -12,6 +12,7 @@ use lib.ListN.{length}
 use Rattle.text.specs.Bytes.{byte, sameFor, samePart}
 use Rattle.text.proofs.ByteLaws.{SameFrom, same-start, same-on, same-differs, same-all}
 use Rattle.text.proofs.Within.{and-left, and-right}
+use Rattle.rows.specs.Slots.{own-name, own-name-past}
 use Rattle.grammar.specs.Move.{View}
 use Rattle.grammar.specs.Parameter.{findFrom, find}
 
@@ -52,12 +53,12 @@ module _ (x : List ℕ) (v : View) (j a e : ℕ) where
   seek-end n i p q h = let z : v .counts j - i ≡ 0 = omega arith in rw z at (q .goes)
 
   module _ (n i : ℕ) (p : n ≡ v .counts j) (q : Seeking x v j a e i) (h : i < n) where
-    look : cond (samePart x (v .slots j i 0) (v .slots j i 1) x a e) (suc i) (findFrom (v .counts j - (i + 1)) x v j (suc i) a e) ≡ find x v j a e
+    look : cond (samePart x (v .slots j i own-name) (v .slots j i own-name-past) x a e) (suc i) (findFrom (v .counts j - (i + 1)) x v j (suc i) a e) ≡ find x v j a e
     unfolding findFrom
     look = let z : v .counts j - i ≡ suc (v .counts j - (i + 1)) = omega arith in rw z at (q .goes)
 
     -- the record's name is from f up to t, and r whether it is as long
-    module _ (f t : ℕ) (pf : f ≡ v .slots j i 0) (pt : t ≡ v .slots j i 1) (r : Bool) (pr : r ≡ (leb f t && leb a e && eqb (t - f) (e - a))) where
+    module _ (f t : ℕ) (pf : f ≡ v .slots j i own-name) (pt : t ≡ v .slots j i own-name-past) (r : Bool) (pr : r ≡ (leb f t && leb a e && eqb (t - f) (e - a))) where
       pub seek-short : r ≡ false → Seeking x v j a e (i + 1)
       unfolding samePart
       seek-short b =

@@ -28,7 +28,8 @@ use Rattle.convert.specs.Limit.{atMost}
 use Rattle.records.specs.Records.{mostOf}
 use Rattle.records.specs.Cells.{sectionIn, countIn}
 use Rattle.records.specs.declared.Section.{Section}
-use Rattle.rows.specs.Sections.{sections, entry}
+use Rattle.rows.specs.Sections.{sections, table, entry}
+use Rattle.rows.specs.Slots.{first-held, entry-sign, entry-size, entry-text}
 use Rattle.grammar.specs.Move.{View, viewIn, current, decimalSlots, state, items, idle, writes, Move, went, refused, moved}
 use Rattle.grammar.specs.Parameter.{wrong, kindOf, slotOf, nextOf, secOf, lowOf, highOf, after, keeping, takenWhole, takenPairs, signOf, decimalIn, hasEntry, twice, newRecord, takenEntry, takenDecimal, ofNumber, ofPairs, ofWhole, ofDecimal, takenNumber, foundAt, find, takenNew, ofChoice, takenName, afterText, takenText, taken}
 use Rattle.grammar.specs.declared.state.State.{State}
@@ -113,14 +114,14 @@ abbrev pub Having : View → ℕ → ℕ → ℕ → Type 0
 Having v sign size i = hasEntry (v .counts entry - i) v i sign size ≡ twice v sign size
 
 module _ (v : View) (sign size : ℕ) where
-  pub having-start : (i : ℕ) → i ≡ current v 2 2 → Having v sign size i
+  pub having-start : (i : ℕ) → i ≡ current v table first-held → Having v sign size i
   having-start i p = rw p
 
   pub having-none : (n i : ℕ) → n ≡ v .counts entry → Having v sign size i → n ≤ i → false ≡ twice v sign size
   unfolding hasEntry
   having-none n i p q h = let z : v .counts entry - i ≡ 0 = omega arith in rw z at q
 
-  module _ (n i : ℕ) (p : n ≡ v .counts entry) (q : Having v sign size i) (h : i < n) (a b : ℕ) (pa : a ≡ v .slots entry i 0) (pb : b ≡ v .slots entry i 1) where
+  module _ (n i : ℕ) (p : n ≡ v .counts entry) (q : Having v sign size i) (h : i < n) (a b : ℕ) (pa : a ≡ v .slots entry i entry-sign) (pb : b ≡ v .slots entry i entry-size) where
     look : (eqb a sign && eqb b size || hasEntry (v .counts entry - (i + 1)) v (suc i) sign size) ≡ twice v sign size
     unfolding hasEntry
     look = let z : v .counts entry - i ≡ suc (v .counts entry - (i + 1)) = omega arith in rw (pa, pb) (rw z at q)
@@ -321,7 +322,7 @@ module _ (s : State) where
   text-last r h q = rw (le-ltb 1 (s .left) h, q)
 
   module _ (a e kind : ℕ) (pk : kind ≡ kindOf s) (m : code.Move) (st : State) (act : Act) (p : moved m ≡ went e st act) where
-    pub text-pair : kind ≡ 13 → st ≡ afterText s → act ≡ writes entry 2 2 a e 0 → moved m ≡ takenText s a e
+    pub text-pair : kind ≡ 13 → st ≡ afterText s → act ≡ writes entry entry-text 2 a e 0 → moved m ≡ takenText s a e
     unfolding takenText
     text-pair h u w = rw (← pk, eq-eqb kind 13 h, p, u, w)
 

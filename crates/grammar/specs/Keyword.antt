@@ -11,6 +11,7 @@ use Rattle.words.specs.Kind as word
 use Rattle.words.specs.Class.{classAt}
 use Rattle.rows.specs.Codes.{FILE, ANY, PROJECT, MODULE, CHARACTERISTIC, AXIS-DESCR, CURVE, MAP}
 use Rattle.rows.specs.Sections.{object, axis, none}
+use Rattle.rows.specs.Slots.{object-type}
 use Rattle.rows.specs.Rows.{rows, needed}
 use Rattle.rows.specs.Numbered.{rowAt, firstParam, needAt}
 use Rattle.rows.specs.Row.{outside}
@@ -48,7 +49,7 @@ axesOf type = cond (eqb type MAP) 2 (cond (eqb type CURVE) 1 0)
 
 -- how often the keyword of row i may stand: no "more AXIS_DESCR than the type has"; any other once
 abbrev pub limitOf : View → ℕ → ℕ
-limitOf v i = cond (eqb (rowAt i .adds) axis) (axesOf (current v object 4)) 1
+limitOf v i = cond (eqb (rowAt i .adds) axis) (axesOf (current v object object-type)) 1
 
 -- "once-only keyword twice; more AXIS_DESCR than the type has": the keyword of row i, where it is counted, was there as often as it may stand
 abbrev pub isOften : View → ℕ → Bool

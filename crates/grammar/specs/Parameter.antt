@@ -18,6 +18,7 @@ use Rattle.records.specs.Records.{mostOf}
 use Rattle.rows.specs.Sections.{sections, entry, table, none}
 use Rattle.rows.specs.Kinds.{nameKind, stringKind, wholeKind, choiceKind, newKind, pointsKind, alignmentKind, noughtKind, upperKind, pairsKind, numberKind, textKind}
 use Rattle.rows.specs.Numbered.{paramAt}
+use Rattle.rows.specs.Slots.{own-name, own-name-past, first-held, entry-sign, entry-size, entry-text}
 use Rattle.grammar.specs.Move.{View, current, decimalSlots, state, items, idle, writes, Move, went, refused}
 use Rattle.grammar.specs.declared.names.Found.{Found}
 use Rattle.grammar.specs.declared.names.Found.the-variants as found
@@ -100,11 +101,11 @@ decimalIn v j k = decimalSlots v j (v .counts j - 1) k
 -- one of f entries from record i on has the number
 unfoldable pub hasEntry : ℕ → View → ℕ → ℕ → ℕ → Bool
 hasEntry zero v i sign size = false
-hasEntry (suc f) v i sign size = eqb (v .slots entry i 0) sign && eqb (v .slots entry i 1) size || hasEntry f v (suc i) sign size
+hasEntry (suc f) v i sign size = eqb (v .slots entry i entry-sign) sign && eqb (v .slots entry i entry-size) size || hasEntry f v (suc i) sign size
 
 -- an entry of the current table has the number; its entries are those from its first on
 abbrev pub twice : View → ℕ → ℕ → Bool
-twice v sign size = hasEntry (v .counts entry - current v table 2) v (current v table 2) sign size
+twice v sign size = hasEntry (v .counts entry - current v table first-held) v (current v table first-held) sign size
 
 -- a record more in section j, which begins with the first n of four numbers
 abbrev pub newRecord : ℕ → ℕ → ℕ → ℕ → ℕ → ℕ → Act
@@ -158,7 +159,7 @@ foundAt found.Nothing = 0
 -- the first record of section j, from i on, whose name is the bytes from a up to e; its number plus one, 0 for none
 unfoldable pub findFrom : ℕ → List ℕ → View → ℕ → ℕ → ℕ → ℕ → ℕ
 findFrom zero x v j i a e = 0
-findFrom (suc f) x v j i a e = cond (samePart x (v .slots j i 0) (v .slots j i 1) x a e) (suc i) (findFrom f x v j (suc i) a e)
+findFrom (suc f) x v j i a e = cond (samePart x (v .slots j i own-name) (v .slots j i own-name-past) x a e) (suc i) (findFrom f x v j (suc i) a e)
 
 abbrev pub find : List ℕ → View → ℕ → ℕ → ℕ → ℕ
 find x v j a e = findFrom (v .counts j) x v j 0 a e
@@ -196,7 +197,7 @@ afterText s = cond (ltb 1 (s .left)) (state items (s .block) (s .param - 1) (s .
 -- a pair's text goes to its entry, any other to its slot
 unfoldable pub takenText : State → ℕ → ℕ → Move
 takenText s a e =
-    cond (eqb (kindOf s) textKind) (went e (afterText s) (writes entry 2 2 a e 0))
+    cond (eqb (kindOf s) textKind) (went e (afterText s) (writes entry entry-text 2 a e 0))
     (went e (after s) (keeping s 2 a e 0))
 
 -- ---- any piece: "parameter .. of the wrong kind" is 5

@@ -1,6 +1,8 @@
 // The search for a name among the records of a section.
 use crate::view::count_of;
 use crate::view::slot_of;
+use rows::slots::OWN_NAME;
+use rows::slots::OWN_NAME_PAST;
 use text::bytes::byte_at;
 ghost use mathlib.Core.Path.{_≡_};
 ghost use mathlib.Core.Bool.{_&&_};
@@ -46,8 +48,8 @@ pub fn find(x: &[u8], t: &[u64], j: u8, a: usize, e: usize) -> Found
         if count <= i {
             break Found::Nothing;
         }
-        let from = slot_of(t, j, i, 0) as usize;
-        let to = slot_of(t, j, i, 1) as usize;
+        let from = slot_of(t, j, i, OWN_NAME) as usize;
+        let to = slot_of(t, j, i, OWN_NAME_PAST) as usize;
         if is_as_long(from, to, a, e) {
             let mut k: usize = 0;
             loop {

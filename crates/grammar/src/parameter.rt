@@ -25,6 +25,10 @@ use rows::cells::PARAM_SEC;
 use rows::cells::PARAM_SLOT;
 use rows::limit_cell;
 use rows::param_cell;
+use rows::slots::ENTRY_SIGN;
+use rows::slots::ENTRY_SIZE;
+use rows::slots::ENTRY_TEXT;
+use rows::slots::FIRST_HELD;
 use text::cursor::Cursor;
 use words::class::Class;
 ghost use mathlib.Core.Path.{_≡_};
@@ -210,10 +214,10 @@ fn has_number(t: &[u64], sign: u64, size: u64) -> bool
     ensures { λ r. ⌜ r ≡ twice (viewIn (now (t .entry))) sign size ⌝ }
 {
     let count = count_of(t, ENTRY) as u64;
-    let mut i = current_of(t, TABLE, 2);
+    let mut i = current_of(t, TABLE, FIRST_HELD);
     while i < count {
         let k = i as u16;
-        if (slot_of(t, ENTRY, k, 0) == sign) & (slot_of(t, ENTRY, k, 1) == size) {
+        if (slot_of(t, ENTRY, k, ENTRY_SIGN) == sign) & (slot_of(t, ENTRY, k, ENTRY_SIZE) == size) {
             return true;
         }
         i += 1;
@@ -418,7 +422,7 @@ fn text_act(a: u64, e: u64) -> Act
     Act {
         adds: NONE,
         sec: ENTRY,
-        slot: 2,
+        slot: ENTRY_TEXT,
         many: 2,
         a,
         b: e,

@@ -14,6 +14,7 @@ use Rattle.records.specs.Records.{count, slot}
 use Rattle.records.proofs.Encode.{fit-few}
 use Rattle.rows.specs.Codes.{AXIS-PTS, CHARACTERISTIC, VAL-BLK, CURVE, MAP, COM-AXIS}
 use Rattle.rows.specs.Sections.{sections, object, axis}
+use Rattle.rows.specs.Slots.{block-code, object-type, object-max-points, axis-attribute, axis-max-points, axis-pts-ref, axis-pts-ref-past}
 use Rattle.grammar.specs.Move.{View, view}
 use Rattle.grammar.specs.Parameter.{find}
 use Rattle.grammar.specs.Keyword.{axesOf}
@@ -35,7 +36,7 @@ Counted n = (1 ≤ pointsOf (n .x)) × (1 ≤ pointsOf (n .y))
 
 -- each AXIS_PTS_REF that is there leads to an AXIS_PTS
 abbrev pub Shares : List ℕ → List (List (List ℕ)) → Type 0
-Shares x d = (a : ℕ) → a < count d axis → (slot d axis a 15 ≡ 0 → ⊥) → leads x (view d) (row axis 14 object AXIS-PTS 0) (slot d axis a 14) (slot d axis a 15) ≡ true
+Shares x d = (a : ℕ) → a < count d axis → (slot d axis a axis-pts-ref-past ≡ 0 → ⊥) → leads x (view d) (row axis 14 object AXIS-PTS 0) (slot d axis a axis-pts-ref) (slot d axis a axis-pts-ref-past) ≡ true
 
 pub shares : (image : List ℕ) (base : ℕ) (x : List ℕ) (d : List (List (List ℕ))) → Accepted image base x d → Shares x d
 unfolding referenceRows innerRows
@@ -63,70 +64,70 @@ same-points (given s) = refl
 same-points (refused k) = refl
 
 module _ (image : List ℕ) (base : ℕ) (x : List ℕ) (d : List (List (List ℕ))) (k : Kept x d) (p : Pointed d) (f : Shares x d) (stood : (i : ℕ) → i < count d object → Stood image base x (view d) i) where
-  points-counted : (i : ℕ) → slot d object i 3 ≡ AXIS-PTS → Counted (axisPtsNeed (view d) i)
+  points-counted : (i : ℕ) → slot d object i block-code ≡ AXIS-PTS → Counted (axisPtsNeed (view d) i)
   unfolding axisPtsNeed
-  points-counted i e = (own-points (slot d object i 12) (p .points i e), none-points)
+  points-counted i e = (own-points (slot d object i object-max-points) (p .points i e), none-points)
 
   -- "for COM_AXIS it is that of the AXIS_PTS named"
-  points-need : (s : ℕ) → slot d object s 3 ≡ AXIS-PTS → needOf image base x (view d) s ≡ axisPtsNeed (view d) s
+  points-need : (s : ℕ) → slot d object s block-code ≡ AXIS-PTS → needOf image base x (view d) s ≡ axisPtsNeed (view d) s
   unfolding needOf
-  points-need s e = rw (eq-eqb (slot d object s 3) AXIS-PTS e)
+  points-need s e = rw (eq-eqb (slot d object s block-code) AXIS-PTS e)
 
   shared-is : (s : ℕ) → needOf image base x (view d) s ≡ axisPtsNeed (view d) s → sharedPoints image base x (view d) s ≡ placesOf image base x (view d) s .cx
   unfolding sharedPoints placesOf
   shared-is s e = rw e (same-points (placement (groundOf x (view d) base s) (axisPtsNeed (view d) s) image (layoutOf x (view d) s)))
 
-  shared-some : (s : ℕ) → s < count d object → slot d object s 3 ≡ AXIS-PTS → 1 ≤ sharedPoints image base x (view d) s
+  shared-some : (s : ℕ) → s < count d object → slot d object s block-code ≡ AXIS-PTS → 1 ≤ sharedPoints image base x (view d) s
   shared-some s l e = rw (shared-is s (points-need s e)) (stood s l .some-x (rw (points-need s e) (points-counted s e .0)))
 
   -- where AXIS_DESCR a leads
   module _ (a : ℕ) (l : a < count d axis) where
     abbrev found : ℕ
-    found = find x (view d) object (slot d axis a 14) (slot d axis a 15)
+    found = find x (view d) object (slot d axis a axis-pts-ref) (slot d axis a axis-pts-ref-past)
 
-    led-to : slot d axis a 1 ≡ COM-AXIS → (0 < found) × (slot d object (found - 1) 3 ≡ AXIS-PTS)
+    led-to : slot d axis a axis-attribute ≡ COM-AXIS → (0 < found) × (slot d object (found - 1) block-code ≡ AXIS-PTS)
     unfolding leads isFree
     led-to e = found-of (view d) object AXIS-PTS found (λ z. omega arith) (f a l (λ z. omega (arith, p .references a e)))
 
-    shared-below : slot d axis a 1 ≡ COM-AXIS → 1 ≤ sharedPoints image base x (view d) (sharedBy x (view d) a)
-    shared-below e = shared-some (found - 1) (omega (arith, led-to e .0, find-below x (view d) object (slot d axis a 14) (slot d axis a 15))) (led-to e .1)
+    shared-below : slot d axis a axis-attribute ≡ COM-AXIS → 1 ≤ sharedPoints image base x (view d) (sharedBy x (view d) a)
+    shared-below e = shared-some (found - 1) (omega (arith, led-to e .0, find-below x (view d) object (slot d axis a axis-pts-ref) (slot d axis a axis-pts-ref-past))) (led-to e .1)
 
     axis-some : 1 ≤ pointsOf (axisNeed image base x (view d) a)
     unfolding axisNeed pointsOf
-    axis-some = by-test (λ (z : Axis). 1 ≤ pointsOf z) (eqb (slot d axis a 1) COM-AXIS) (λ t. shared-below (eqb-true (slot d axis a 1) COM-AXIS t)) (λ t. own-points (slot d axis a 6) (p .axisPoints a l))
+    axis-some = by-test (λ (z : Axis). 1 ≤ pointsOf z) (eqb (slot d axis a axis-attribute) COM-AXIS) (λ t. shared-below (eqb-true (slot d axis a axis-attribute) COM-AXIS t)) (λ t. own-points (slot d axis a axis-max-points) (p .axisPoints a l))
 
   -- the AXIS_DESCR of a CURVE and of a MAP are there
-  axis-below : (i n : ℕ) → slot d object i 3 ≡ CHARACTERISTIC → n < axesOf (slot d object i 4) → axisAt (view d) i n < count d axis
+  axis-below : (i n : ℕ) → slot d object i block-code ≡ CHARACTERISTIC → n < axesOf (slot d object i object-type) → axisAt (view d) i n < count d axis
   unfolding sections
   axis-below i n e h =
       let m : count d axis ≤ mostAxes = fit-few sections d axis (k .good) in
       omega (arith, p .axes i e)
 
-  module _ (i : ℕ) (e : slot d object i 3 ≡ CHARACTERISTIC) where
-    block-counted : slot d object i 4 ≡ VAL-BLK → Counted (blockNeed (view d) i)
+  module _ (i : ℕ) (e : slot d object i block-code ≡ CHARACTERISTIC) where
+    block-counted : slot d object i object-type ≡ VAL-BLK → Counted (blockNeed (view d) i)
     unfolding blockNeed pointsOf
     block-counted t = (omega (arith, p .numbers i e t), none-points)
 
-    curve-counted : slot d object i 4 ≡ CURVE → Counted (curveNeed image base x (view d) i)
+    curve-counted : slot d object i object-type ≡ CURVE → Counted (curveNeed image base x (view d) i)
     unfolding curveNeed
     curve-counted t = (axis-some (axisAt (view d) i 0) (axis-below i 0 e (rw t (omega arith))), none-points)
 
-    map-counted : slot d object i 4 ≡ MAP → Counted (mapNeed image base x (view d) i)
+    map-counted : slot d object i object-type ≡ MAP → Counted (mapNeed image base x (view d) i)
     unfolding mapNeed
     map-counted t = (axis-some (axisAt (view d) i 0) (axis-below i 0 e (rw t (omega arith))), axis-some (axisAt (view d) i 1) (axis-below i 1 e (rw t (omega arith))))
 
     characteristic-counted : Counted (characteristicNeed image base x (view d) i)
     unfolding characteristicNeed
     characteristic-counted =
-        by-test Counted (eqb (slot d object i 4) VAL-BLK) (λ t. block-counted (eqb-true (slot d object i 4) VAL-BLK t))
-        (λ t. by-test Counted (eqb (slot d object i 4) CURVE) (λ u. curve-counted (eqb-true (slot d object i 4) CURVE u))
-        (λ u. by-test Counted (eqb (slot d object i 4) MAP) (λ w. map-counted (eqb-true (slot d object i 4) MAP w)) (λ w. (none-points, none-points))))
+        by-test Counted (eqb (slot d object i object-type) VAL-BLK) (λ t. block-counted (eqb-true (slot d object i object-type) VAL-BLK t))
+        (λ t. by-test Counted (eqb (slot d object i object-type) CURVE) (λ u. curve-counted (eqb-true (slot d object i object-type) CURVE u))
+        (λ u. by-test Counted (eqb (slot d object i object-type) MAP) (λ w. map-counted (eqb-true (slot d object i object-type) MAP w)) (λ w. (none-points, none-points))))
 
   need-counted : (i : ℕ) → Counted (needOf image base x (view d) i)
   unfolding needOf
   need-counted i =
-      by-test Counted (eqb (slot d object i 3) AXIS-PTS) (λ t. points-counted i (eqb-true (slot d object i 3) AXIS-PTS t))
-      (λ t. by-test Counted (eqb (slot d object i 3) CHARACTERISTIC) (λ u. characteristic-counted i (eqb-true (slot d object i 3) CHARACTERISTIC u)) (λ u. (none-points, none-points)))
+      by-test Counted (eqb (slot d object i block-code) AXIS-PTS) (λ t. points-counted i (eqb-true (slot d object i block-code) AXIS-PTS t))
+      (λ t. by-test Counted (eqb (slot d object i block-code) CHARACTERISTIC) (λ u. characteristic-counted i (eqb-true (slot d object i block-code) CHARACTERISTIC u)) (λ u. (none-points, none-points)))
 
   -- each object has a point in x and in y
   pub some-points : (i : ℕ) → i < count d object → (1 ≤ placesOf image base x (view d) i .cx) × (1 ≤ placesOf image base x (view d) i .cy)

@@ -17,6 +17,7 @@ use Rattle.number.specs.Form.{isGiven}
 use Rattle.number.specs.Most.{mostObjects, mostElements}
 use Rattle.records.specs.Records.{count, slot}
 use Rattle.rows.specs.Sections.{method, object, axis}
+use Rattle.rows.specs.Slots.{own-name}
 use Rattle.grammar.specs.Move.{View, view}
 use Rattle.grammar.specs.Read.{read}
 use Rattle.refer.specs.Refer.{innerRows, referenceRows, leads, failing, leastFrom, leastOf, leastIn, referred}
@@ -222,7 +223,7 @@ module _ (image : List ℕ) (base : ℕ) (x : List ℕ) (v : View) where
     turn-gives j js seen used l h e ih = by (eqb (getD seen j 0) 0) refl ih where
       by : (b : Bool) → eqb (getD seen j 0) 0 ≡ b
           → ((u : ℕ) → v .counts object ≤ length (cond b (set seen j 1) seen) → u ≡ sumOf image base x v (cond b (set seen j 1) seen) → Gives (judgeEach image base x v (cond b (set seen j 1) seen) js u))
-          → Gives (with (cond b (stage.totalOr (v .slots object j 0) (judgeObject image base x v j used)) (given used)) (judgeEach image base x v (cond b (set seen j 1) seen) js))
+          → Gives (with (cond b (stage.totalOr (v .slots object j own-name) (judgeObject image base x v j used)) (given used)) (judgeEach image base x v (cond b (set seen j 1) seen) js))
       by true t k =
           let s : sumOf image base x v (set seen j 1) ≡ sumOf image base x v seen + elementsOf image base x v j = sum-marked image base x v seen j (omega arith) h t in
           let m : used + elementsOf image base x v j ≤ mostElements = omega (arith, sum-within (set seen j 1)) in

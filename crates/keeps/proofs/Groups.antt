@@ -19,6 +19,7 @@ use Rattle.convert.specs.Limit.{atMost}
 use Rattle.records.specs.Records.{count, slot}
 use Rattle.rows.specs.Codes.{AXIS-PTS, MEASUREMENT, MAP, COLUMN-DIR, INDEX-DECR}
 use Rattle.rows.specs.Sections as records
+use Rattle.rows.specs.Slots.{block-code, fnc-values-mode, axis-pts-x-order, axis-pts-y-order, object-type, bit-mask-seen, bit-mask}
 use Rattle.grammar.specs.Move.{View, view, decimalSlots}
 use Rattle.facts.specs.Facts.{Kept}
 use Rattle.place.specs.Inside.{inside}
@@ -72,7 +73,7 @@ measured-typed k = record { values = refl; x = none-typed; y = none-typed; nx = 
 
 pub layout-typed : (x : List ℕ) (v : View) (i : ℕ) → TypedAll (layoutOf x v i)
 unfolding layoutOf
-layout-typed x v i = by-test TypedAll (eqb (v .slots records.object i 3) MEASUREMENT) (λ t. measured-typed (v .slots records.object i 4)) (λ t. at-typed v (layoutNumber x v i))
+layout-typed x v i = by-test TypedAll (eqb (v .slots records.object i block-code) MEASUREMENT) (λ t. measured-typed (v .slots records.object i object-type)) (λ t. at-typed v (layoutNumber x v i))
 
 pub present-type : (e : Entry) → Typed e → e .present ≡ true → isType (e .kind) ≡ true
 present-type e t h = sym t ∙ h
@@ -173,11 +174,11 @@ abbrev upper : View → Source → Scaled
 upper v s = decimalSlots v (s .sec) (s .number) (s .upper)
 
 x-limits : (x : List ℕ) (d : List (List (List ℕ))) → Kept x d → (i : ℕ) → atMost (lower (view d) (xSource (view d) i)) (upper (view d) (xSource (view d) i)) ≡ true
-x-limits x d k i = by-test (λ (s : Source). atMost (lower (view d) s) (upper (view d) s) ≡ true) (eqb (slot d records.object i 3) AXIS-PTS) (λ t. k .limits i) (λ t. k .axisLimits (axisAt (view d) i 0))
+x-limits x d k i = by-test (λ (s : Source). atMost (lower (view d) s) (upper (view d) s) ≡ true) (eqb (slot d records.object i block-code) AXIS-PTS) (λ t. k .limits i) (λ t. k .axisLimits (axisAt (view d) i 0))
 
 walk-values : (v : View) (i l : ℕ) → (valuesWalk v i l ≡ 0) ⊎ (valuesWalk v i l ≡ 2)
 unfolding valuesWalk
-walk-values v i l = by-test (λ (n : ℕ). (n ≡ 0) ⊎ (n ≡ 2)) (eqb (whatOf v i) MAP && eqb (v .slots records.layout l 13) COLUMN-DIR) (λ t. inr refl) (λ t. inl refl)
+walk-values v i l = by-test (λ (n : ℕ). (n ≡ 0) ⊎ (n ≡ 2)) (eqb (whatOf v i) MAP && eqb (v .slots records.layout l fnc-values-mode) COLUMN-DIR) (λ t. inr refl) (λ t. inl refl)
 
 mask-turn : (b : Bool) (r : Bool) (k m : ℕ) → r ≡ maskRule (shapeOf k) m → (b || r) ≡ true → (eqb (cond b 0 m) 0 || maskRule (shapeOf k) (cond b 0 m)) ≡ true
 mask-turn true r k m e h = refl
@@ -185,7 +186,7 @@ mask-turn false r k m e h = or-right (eqb m 0) (sym e ∙ h)
 
 mask-fine : (x : List ℕ) (v : View) (i : ℕ) → maskFits x v i ≡ true → (eqb (maskOf v i) 0 || maskRule (shapeOf (layoutOf x v i .values .kind)) (maskOf v i)) ≡ true
 unfolding maskFits maskOf
-mask-fine x v i h = mask-turn (eqb (v .slots records.object i 21) 0) (maskRule (shapeOf (layoutOf x v i .values .kind)) (v .slots records.object i 22)) (layoutOf x v i .values .kind) (v .slots records.object i 22) refl h
+mask-fine x v i h = mask-turn (eqb (v .slots records.object i bit-mask-seen) 0) (maskRule (shapeOf (layoutOf x v i .values .kind)) (v .slots records.object i bit-mask)) (layoutOf x v i .values .kind) (v .slots records.object i bit-mask) refl h
 
 -- the values are a share of the elements
 share-few : (a b : ℕ) (t : Bool) (c : ℕ) → t ≡ true → a + b + cond t c 0 ≤ mostElements → c ≤ mostElements
@@ -233,7 +234,7 @@ module _ (image : List ℕ) (base : ℕ) (x : List ℕ) (d : List (List (List �
               some-y = omega arith;
               few-y = omega arith;
               bytes-in = rw z (inside-all image base (needOf image base x (view d) i) (layoutOf x (view d) i) (placesOf image base x (view d) i) (s .bytes-in) .x e .1);
-              role = axis-keeps T (i * 3) (length image) _ _ _ _ _ _ _ _ _ _ _ _ _ _ _ _ _ h (omega (arith, rest-0 i)) c refl (flag-least (eqb (slot d records.layout (layoutNumber x (view d) i) 18) INDEX-DECR)) refl
+              role = axis-keeps T (i * 3) (length image) _ _ _ _ _ _ _ _ _ _ _ _ _ _ _ _ _ h (omega (arith, rest-0 i)) c refl (flag-least (eqb (slot d records.layout (layoutNumber x (view d) i) axis-pts-x-order) INDEX-DECR)) refl
                   (counter-fine image base (placesOf image base x (view d) i .nx) (layoutOf x (view d) i .nx) (layout-typed x (view d) i .nx) (s .held .countX) (layoutOf x (view d) i .nx .present) refl);
               its-method = methods-few (xSource (view d) i);
               only = forbids-least (view d) (xSource (view d) i) false;
@@ -262,7 +263,7 @@ module _ (image : List ℕ) (base : ℕ) (x : List ℕ) (d : List (List (List �
               some-y = omega arith;
               few-y = omega arith;
               bytes-in = rw z (inside-all image base (needOf image base x (view d) i) (layoutOf x (view d) i) (placesOf image base x (view d) i) (s .bytes-in) .y e .1);
-              role = axis-keeps T (i * 3 + 1) (length image) _ _ _ _ _ _ _ _ _ _ _ _ _ _ _ _ _ h (omega (arith, rest-1 i)) c refl (flag-least (eqb (slot d records.layout (layoutNumber x (view d) i) 23) INDEX-DECR)) refl
+              role = axis-keeps T (i * 3 + 1) (length image) _ _ _ _ _ _ _ _ _ _ _ _ _ _ _ _ _ h (omega (arith, rest-1 i)) c refl (flag-least (eqb (slot d records.layout (layoutNumber x (view d) i) axis-pts-y-order) INDEX-DECR)) refl
                   (counter-fine image base (placesOf image base x (view d) i .ny) (layoutOf x (view d) i .ny) (layout-typed x (view d) i .ny) (s .held .countY) (layoutOf x (view d) i .ny .present) refl);
               its-method = methods-few (ofAxis (axisAt (view d) i 1));
               only = forbids-least (view d) (ofAxis (axisAt (view d) i 1)) false;

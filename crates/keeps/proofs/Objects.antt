@@ -11,6 +11,7 @@ use lib.ListN.{length, getD}
 use Rattle.records.specs.Records.{count, slot}
 use Rattle.rows.specs.Codes.{AXIS-PTS, CHARACTERISTIC, MEASUREMENT, VALUE, VAL-BLK, CURVE, MAP}
 use Rattle.rows.specs.Sections as records
+use Rattle.rows.specs.Slots.{own-name, own-name-past, block-code, object-type}
 use Rattle.grammar.specs.Move.{View, view}
 use Rattle.facts.specs.Facts.{Kept}
 use Rattle.place.specs.declared.rules.Axis.{Axis}
@@ -51,18 +52,18 @@ module _ (image : List ℕ) (base : ℕ) (t : List ℕ) (v : View) (i : ℕ) whe
   unfolding mapNeed
   map-suits = map refl refl
 
-  characteristic-suits : Suits (typeOf (v .slots records.object i 4)) (characteristicNeed image base t v i)
+  characteristic-suits : Suits (typeOf (v .slots records.object i object-type)) (characteristicNeed image base t v i)
   unfolding typeOf characteristicNeed
   characteristic-suits =
-      both-test Suits (eqb (v .slots records.object i 4) VAL-BLK) (λ e. block-suits)
-      (λ e. both-test Suits (eqb (v .slots records.object i 4) CURVE) (λ f. curve-suits)
-      (λ f. both-test Suits (eqb (v .slots records.object i 4) MAP) (λ g. map-suits) (λ g. single (inl refl) refl)))
+      both-test Suits (eqb (v .slots records.object i object-type) VAL-BLK) (λ e. block-suits)
+      (λ e. both-test Suits (eqb (v .slots records.object i object-type) CURVE) (λ f. curve-suits)
+      (λ f. both-test Suits (eqb (v .slots records.object i object-type) MAP) (λ g. map-suits) (λ g. single (inl refl) refl)))
 
   suits : Suits (whatOf v i) (needOf image base t v i)
   unfolding whatOf needOf
   suits =
-      both-test Suits (eqb (v .slots records.object i 3) AXIS-PTS) (λ e. points-suit)
-      (λ e. both-test Suits (eqb (v .slots records.object i 3) CHARACTERISTIC) (λ f. characteristic-suits) (λ f. single (inr refl) refl))
+      both-test Suits (eqb (v .slots records.object i block-code) AXIS-PTS) (λ e. points-suit)
+      (λ e. both-test Suits (eqb (v .slots records.object i block-code) CHARACTERISTIC) (λ f. characteristic-suits) (λ f. single (inr refl) refl))
 
 -- ---- the parts
 
@@ -158,5 +159,5 @@ module _ (image : List ℕ) (base : ℕ) (t : List ℕ) (d : List (List (List �
     unfolding objectRule
     object-keeps =
         let e = slot-object image base t (view d) n w i in
-        and (text-keeps (length t) (slot d records.object i 0) (slot d records.object i 1) (T .slots objectSection i 0) (T .slots objectSection i 1) (e 0 l) (e 1 l) (k .names records.object i refl))
+        and (text-keeps (length t) (slot d records.object i own-name) (slot d records.object i own-name-past) (T .slots objectSection i 0) (T .slots objectSection i 1) (e 0 l) (e 1 l) (k .names records.object i refl))
         (ap (λ (m : ℕ). partsRule T i m) (e 2 l) ∙ parts-keep)

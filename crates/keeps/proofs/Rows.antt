@@ -23,6 +23,7 @@ use Rattle.convert.specs.declared.method.Coefficients.{Coefficients}
 use Rattle.records.specs.Records.{count, slot}
 use Rattle.rows.specs.Codes.{LINEAR, RAT-FUNC, TAB-VERB}
 use Rattle.rows.specs.Sections as records
+use Rattle.rows.specs.Slots.{own-name, first-held, conversion-type, linear-a, linear-b, compu-tab-ref, compu-tab-ref-past, default-value, default-value-past, entry-text, entry-text-past}
 use Rattle.grammar.specs.Move.{View, view}
 use Rattle.methods.specs.Methods as methods
 use Rattle.methods.specs.Methods.{decimalAt, coefficients, convertsFrom, converts}
@@ -68,8 +69,8 @@ identical-sound = refl
 pub coefficients-sound : (v : View) (i : ℕ) → Judged (coefficients v i)
 unfolding coefficients
 coefficients-sound v i =
-    by-test Judged (eqb (v .slots records.method i 4) LINEAR) (λ t. linear-sound v i)
-    (λ t. by-test Judged (eqb (v .slots records.method i 4) RAT-FUNC) (λ s. rat-func-sound v i) (λ s e. identical-sound))
+    by-test Judged (eqb (v .slots records.method i conversion-type) LINEAR) (λ t. linear-sound v i)
+    (λ t. by-test Judged (eqb (v .slots records.method i conversion-type) RAT-FUNC) (λ s. rat-func-sound v i) (λ s e. identical-sound))
 
 -- ---- the coefficients that a conversion's word asks for
 
@@ -84,8 +85,8 @@ identical-linear = refl
 linear-keeps : (v : View) (i : ℕ) → linearRule (coefficientsIn (methods.linearAt v i)) ≡ true
 unfolding methods.linearAt linearOf judgedMethod
 linear-keeps v i =
-    let a : Scaled = decimalAt v i 19 in
-    let b : Scaled = decimalAt v i 22 in
+    let a : Scaled = decimalAt v i linear-a in
+    let b : Scaled = decimalAt v i linear-b in
     by-test (λ (z : Answer Coefficients). linearRule (coefficientsIn z) ≡ true) (formed a && formed b)
     (λ t. by-test (λ (z : Answer Coefficients). linearRule (coefficientsIn z) ≡ true) (soundMethod (linearAt (max (a .tens) (b .tens)) a b))
     (λ u. linear-word (max (a .tens) (b .tens)) a b (omega (arith, formed-facts a (and-left (formed a) (formed b) t) .tens-most, formed-facts b (and-right (formed a) (formed b) t) .tens-most)))
@@ -95,8 +96,8 @@ linear-keeps v i =
 word-keeps : (v : View) (i : ℕ) → wordRule (conversionOf v i) (coefficientsIn (coefficients v i)) ≡ true
 unfolding conversionOf coefficients wordRule identicalRule
 word-keeps v i =
-    both-test (λ (w : ℕ) (z : Answer Coefficients). wordRule w (coefficientsIn z) ≡ true) (eqb (v .slots records.method i 4) LINEAR) (λ t. linear-keeps v i)
-    (λ t. both-test (λ (w : ℕ) (z : Answer Coefficients). wordRule w (coefficientsIn z) ≡ true) (eqb (v .slots records.method i 4) RAT-FUNC) (λ s. refl) (λ s. refl))
+    both-test (λ (w : ℕ) (z : Answer Coefficients). wordRule w (coefficientsIn z) ≡ true) (eqb (v .slots records.method i conversion-type) LINEAR) (λ t. linear-keeps v i)
+    (λ t. both-test (λ (w : ℕ) (z : Answer Coefficients). wordRule w (coefficientsIn z) ≡ true) (eqb (v .slots records.method i conversion-type) RAT-FUNC) (λ s. refl) (λ s. refl))
 
 -- where the conversions are accepted each method has coefficients
 converts-each : (f : ℕ) (v : View) (i : ℕ) → convertsFrom f v i ≡ text.given tt → (k : ℕ) → k < f → isGiven (coefficients v (i + k)) ≡ true
@@ -108,7 +109,7 @@ converts-each (suc f) v i h k l = turn (isGiven (coefficients v i)) refl h k l (
   later h zero l e ih = let z : i + 0 ≡ i = omega arith in rw z e
   later h (suc k) l e ih = let z : i + suc k ≡ suc i + k = omega arith in rw z (ih h k (omega arith))
 
-  turn : (b : Bool) → isGiven (coefficients v i) ≡ b → cond b (convertsFrom f v (suc i)) (text.refused 10 (v .slots records.method i 0)) ≡ text.given tt → (k : ℕ) → k < suc f
+  turn : (b : Bool) → isGiven (coefficients v i) ≡ b → cond b (convertsFrom f v (suc i)) (text.refused 10 (v .slots records.method i own-name)) ≡ text.given tt → (k : ℕ) → k < suc f
       → (convertsFrom f v (suc i) ≡ text.given tt → (m : ℕ) → m < f → isGiven (coefficients v (suc i + m)) ≡ true) → isGiven (coefficients v (i + k)) ≡ true
   turn true e h k l ih = later h k l e ih
   turn false e h k l ih = let z : _≡_ {A = ℕ} 0 1 = cc in absurd (omega arith)
@@ -145,8 +146,8 @@ module _ (T : Tables) (i : ℕ) where
     conversion-kind : (isFraction (conversionOf v j) ≡ true) × (isVerbal (conversionOf v j) ≡ false)
     unfolding conversionOf
     conversion-kind =
-        by-test (λ (n : ℕ). (isFraction n ≡ true) × (isVerbal n ≡ false)) (eqb (v .slots records.method j 4) LINEAR) (λ t. (refl, refl))
-        (λ t. by-test (λ (n : ℕ). (isFraction n ≡ true) × (isVerbal n ≡ false)) (eqb (v .slots records.method j 4) RAT-FUNC) (λ s. (refl, refl)) (λ s. (refl, refl)))
+        by-test (λ (n : ℕ). (isFraction n ≡ true) × (isVerbal n ≡ false)) (eqb (v .slots records.method j conversion-type) LINEAR) (λ t. (refl, refl))
+        (λ t. by-test (λ (n : ℕ). (isFraction n ≡ true) × (isVerbal n ≡ false)) (eqb (v .slots records.method j conversion-type) RAT-FUNC) (λ s. (refl, refl)) (λ s. (refl, refl)))
 
     signs-keep : signsRule T i ≡ true
     unfolding signsRule
@@ -205,29 +206,29 @@ module _ (image : List ℕ) (base : ℕ) (x : List ℕ) (d : List (List (List �
     t = tableNumber x (view d) i
 
     few : t ≤ T .counts tableSection
-    few = rw (count-tables image base x (view d) n w) (find-below x (view d) records.table (slot d records.method i 26) (slot d records.method i 27))
+    few = rw (count-tables image base x (view d) n w) (find-below x (view d) records.table (slot d records.method i compu-tab-ref) (slot d records.method i compu-tab-ref-past))
 
-    verbal : (eqb (slot d records.method i 4) TAB-VERB && not (eqb t 0)) ≡ true → Holds T i (verbalRow t) → methodRule T i ≡ true
-    verbal e q = verbal-keeps T i t q (eqb-false t 0 (not-true (eqb t 0) (and-right (eqb (slot d records.method i 4) TAB-VERB) (not (eqb t 0)) e))) few
+    verbal : (eqb (slot d records.method i conversion-type) TAB-VERB && not (eqb t 0)) ≡ true → Holds T i (verbalRow t) → methodRule T i ≡ true
+    verbal e q = verbal-keeps T i t q (eqb-false t 0 (not-true (eqb t 0) (and-right (eqb (slot d records.method i conversion-type) TAB-VERB) (not (eqb t 0)) e))) few
 
     fraction : Holds T i (fractionRow (view d) i) → methodRule T i ≡ true
     fraction q = fraction-keeps T i (view d) i (coefficientsIn (coefficients (view d) i)) q (coefficients-sound (view d) i (converted (view d) c i h)) (word-keeps (view d) i)
 
     row : Holds T i (methodRow x (view d) i) → methodRule T i ≡ true
-    row = by-test (λ (r : List ℕ). Holds T i r → methodRule T i ≡ true) (eqb (slot d records.method i 4) TAB-VERB && not (eqb t 0)) verbal (λ e. fraction)
+    row = by-test (λ (r : List ℕ). Holds T i r → methodRule T i ≡ true) (eqb (slot d records.method i conversion-type) TAB-VERB && not (eqb t 0)) verbal (λ e. fraction)
 
   pub table-keeps : (i : ℕ) → i < count d records.table → tableRule T (length x) i ≡ true
   unfolding tableRule entriesEnd
   table-keeps i h =
       let e = slot-table image base x (view d) n w i in
-      let s : slot d records.table i 2 + (entriesEnd (view d) i - slot d records.table i 2) ≤ count d records.entry = fit in
+      let s : slot d records.table i first-held + (entriesEnd (view d) i - slot d records.table i first-held) ≤ count d records.entry = fit in
       and (le-leb (T .slots tableSection i 0 + T .slots tableSection i 1) (T .counts entrySection) (omega (arith, e 0 h, e 1 h, count-entries image base x (view d) n w)))
-      (text-keeps (length x) (slot d records.table i 7) (slot d records.table i 8) (T .slots tableSection i 2) (T .slots tableSection i 3) (e 2 h) (e 3 h) (k .defaults i))
+      (text-keeps (length x) (slot d records.table i default-value) (slot d records.table i default-value-past) (T .slots tableSection i 2) (T .slots tableSection i 3) (e 2 h) (e 3 h) (k .defaults i))
     where
       end : entriesEnd (view d) i ≤ count d records.entry
       end = by-test (λ (m : ℕ). m ≤ count d records.entry) (ltb (i + 1) (count d records.table)) (λ t. k .firsts (i + 1)) (λ t. omega arith)
 
-      fit : slot d records.table i 2 + (entriesEnd (view d) i - slot d records.table i 2) ≤ count d records.entry
+      fit : slot d records.table i first-held + (entriesEnd (view d) i - slot d records.table i first-held) ≤ count d records.entry
       fit = omega (arith, end, k .firsts i)
 
   pub entry-keeps : (i : ℕ) → i < count d records.entry → entryRule T (length x) i ≡ true
@@ -235,4 +236,4 @@ module _ (image : List ℕ) (base : ℕ) (x : List ℕ) (d : List (List (List �
   entry-keeps i h =
       let e = slot-entry image base x (view d) n w i in
       and (le-leb (T .slots entrySection i 0) 1 (omega (arith, e 0 h)))
-      (text-keeps (length x) (slot d records.entry i 2) (slot d records.entry i 3) (T .slots entrySection i 2) (T .slots entrySection i 3) (e 2 h) (e 3 h) (k .texts i))
+      (text-keeps (length x) (slot d records.entry i entry-text) (slot d records.entry i entry-text-past) (T .slots entrySection i 2) (T .slots entrySection i 3) (e 2 h) (e 3 h) (k .texts i))

@@ -14,6 +14,7 @@ use Rattle.number.specs.Most.{mostElements}
 use Rattle.cell.specs.Kind.{shapeOf}
 use Rattle.rows.specs.Codes.{AXIS-PTS, CHARACTERISTIC, VAL-BLK, CURVE, MAP, COM-AXIS}
 use Rattle.rows.specs.Sections.{object, axis}
+use Rattle.rows.specs.Slots.{block-code, object-type, axis-attribute}
 use Rattle.grammar.specs.Move.{View}
 use Rattle.place.specs.Inside.{inside}
 use Rattle.place.specs.Judge.{allInside}
@@ -45,7 +46,7 @@ pub record Modest (n : Need) : Type 0 where
 module _ (image : List ℕ) (base : ℕ) (x : List ℕ) (v : View) where
   axis-few : (a : ℕ) → axisNeed image base x v a .most ≤ 256
   unfolding axisNeed
-  axis-few a = by-test (λ (z : Axis). z .most ≤ 256) (eqb (v .slots axis a 1) COM-AXIS) (λ t. omega arith) (λ t. omega arith)
+  axis-few a = by-test (λ (z : Axis). z .most ≤ 256) (eqb (v .slots axis a axis-attribute) COM-AXIS) (λ t. omega arith) (λ t. omega arith)
 
   block-modest : (i : ℕ) → Modest (blockNeed v i)
   unfolding blockNeed
@@ -69,15 +70,15 @@ module _ (image : List ℕ) (base : ℕ) (x : List ℕ) (v : View) where
   characteristic-modest : (i : ℕ) → Modest (characteristicNeed image base x v i)
   unfolding characteristicNeed
   characteristic-modest i =
-      by-test Modest (eqb (v .slots object i 4) VAL-BLK) (λ t. block-modest i)
-      (λ t. by-test Modest (eqb (v .slots object i 4) CURVE) (λ s. curve-modest i)
-      (λ s. by-test Modest (eqb (v .slots object i 4) MAP) (λ r. map-modest i) (λ r. value-modest)))
+      by-test Modest (eqb (v .slots object i object-type) VAL-BLK) (λ t. block-modest i)
+      (λ t. by-test Modest (eqb (v .slots object i object-type) CURVE) (λ s. curve-modest i)
+      (λ s. by-test Modest (eqb (v .slots object i object-type) MAP) (λ r. map-modest i) (λ r. value-modest)))
 
   pub need-modest : (i : ℕ) → Modest (needOf image base x v i)
   unfolding needOf
   need-modest i =
-      by-test Modest (eqb (v .slots object i 3) AXIS-PTS) (λ t. points-modest i)
-      (λ t. by-test Modest (eqb (v .slots object i 3) CHARACTERISTIC) (λ s. characteristic-modest i) (λ s. value-modest))
+      by-test Modest (eqb (v .slots object i block-code) AXIS-PTS) (λ t. points-modest i)
+      (λ t. by-test Modest (eqb (v .slots object i block-code) CHARACTERISTIC) (λ s. characteristic-modest i) (λ s. value-modest))
 
 -- ---- what placement keeps besides
 

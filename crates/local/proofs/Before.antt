@@ -10,6 +10,7 @@ use lib.ListN.{length}
 use Rattle.records.specs.Records.{slot}
 use Rattle.records.proofs.Encode.{Good}
 use Rattle.rows.specs.Sections.{sections}
+use Rattle.rows.specs.Slots.{own-name, own-name-past}
 use Rattle.rows.specs.Rows.{rows}
 use Rattle.rows.specs.Numbered.{allParams}
 use Rattle.grammar.specs.Move.{view, applied, went}
@@ -39,7 +40,7 @@ new-named s h = implied (eqb (kindOf s) 6) (isNamed (secOf s)) (each-param newTe
 -- ---- names end before a place
 
 abbrev pub Before : ℕ → List (List (List ℕ)) → Type 0
-Before k d = (j i : ℕ) → isNamed j ≡ true → Told k (slot d j i 0) (slot d j i 1)
+Before k d = (j i : ℕ) → isNamed j ≡ true → Told k (slot d j i own-name) (slot d j i own-name-past)
 
 pub before-start : (k : ℕ) → Before k start
 before-start k j i h = rw (start-slot j i 0, start-slot j i 1) ((omega arith, omega arith), λ z. absurd (z refl))
@@ -62,7 +63,7 @@ module _ (x : List ℕ) (d : List (List (List ℕ))) (s : State) (k : ℕ) (h : 
   before-went g b j i n = of (subst (Leads (s .param ≡ 0) (λ i u w. (k < i) × (i ≤ length x) × Calm u × (i ≤ e → Keeps w)) (λ n p. k ≤ p)) q
       (move-leads x (view d) s (λ u w. Keeps w) e (text-cases j 0 (named-text j n) e s d g (λ i. told-later k e _ _ (omega (arith, went-ahead .0)) (b j i n))) k h calm)) i where
         Keeps : Act → Type 0
-        Keeps w = (i : ℕ) → Told e (slot (applied w d) j i 0) (slot (applied w d) j i 1)
+        Keeps w = (i : ℕ) → Told e (slot (applied w d) j i own-name) (slot (applied w d) j i own-name-past)
 
         of : (k < e) × (e ≤ length x) × Calm t × (e ≤ e → Keeps a) → Keeps a
         of r = r .3 (omega arith)

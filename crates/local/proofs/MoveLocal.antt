@@ -22,6 +22,7 @@ use Rattle.number.specs.Form.{hasForm}
 use Rattle.words.specs.Kind as word
 use Rattle.words.specs.Class.{classAt}
 use Rattle.rows.specs.Codes.{FILE}
+use Rattle.rows.specs.Slots.{own-name, own-name-past}
 use Rattle.grammar.specs.Move.{View, begun, ended, finished, Move, went, over, refused}
 use Rattle.grammar.specs.Parameter.{aName, wrong, kindOf, secOf, highOf, takenNumber, findFrom, takenNew, takenName, taken}
 use Rattle.grammar.specs.Keyword.{levelsIn, ofSkip, skips, begunWord, item, afterBegin, afterEnd}
@@ -80,11 +81,11 @@ module _ (m : ℕ) (x y : List ℕ) (same : take m x ≡ take m y) where
     unfolding wrong
     wrong-same n k = rw form-same
 
-    module _ (v : View) (s : State) (b : (j i : ℕ) → isNamed j ≡ true → v .slots j i 1 + 2 ≤ m) where
+    module _ (v : View) (s : State) (b : (j i : ℕ) → isNamed j ≡ true → v .slots j i own-name-past + 2 ≤ m) where
       find-same : (f j i : ℕ) → isNamed j ≡ true → findFrom f x v j i a e ≡ findFrom f y v j i a e
       unfolding findFrom
       find-same zero j i n = refl
-      find-same (suc f) j i n = rw (parts-same m x y same (v .slots j i 0) (v .slots j i 1) a e (b j i n) l, find-same f j (suc i) n)
+      find-same (suc f) j i n = rw (parts-same m x y same (v .slots j i own-name) (v .slots j i own-name-past) a e (b j i n) l, find-same f j (suc i) n)
 
       new-same : kindOf s ≡ 6 → takenNew x v s a e ≡ takenNew y v s a e
       unfolding takenNew
@@ -140,7 +141,7 @@ module _ (m : ℕ) (x y : List ℕ) (same : take m x ≡ take m y) where
     begun-near v word.listedOnly w = refl
     begun-near v word.unlisted w = refl
 
-  module _ (v : View) (s : State) (b : (j i : ℕ) → isNamed j ≡ true → v .slots j i 1 + 2 ≤ m) where
+  module _ (v : View) (s : State) (b : (j i : ℕ) → isNamed j ≡ true → v .slots j i own-name-past + 2 ≤ m) where
     piece-near : (a e : ℕ) → a < e → e + 2 ≤ m → (k : ℕ) → EarlyMove (onPiece x v s k a e) → onPiece y v s k a e ≡ onPiece x v s k a e
     unfolding onPiece afterBegin
     piece-near a e h l k =

@@ -17,21 +17,22 @@ use Rattle.convert.specs.declared.method.Coefficients.{Coefficients}
 use Rattle.convert.specs.declared.method.MethodAnswer.{MethodAnswer}
 use Rattle.convert.specs.declared.method.MethodAnswer.the-variants as answer
 use Rattle.rows.specs.Sections.{method}
+use Rattle.rows.specs.Slots.{own-name, conversion-type, coeff-b, coeff-c, coeff-e, coeff-f, linear-a, linear-b}
 use Rattle.grammar.specs.Move.{View}
 use Rattle.methods.specs.Methods.{decimalAt, linearAt, ratFuncAt, coefficients, convertsFrom, converts}
 
-pub linear-is : (v : View) (i : ℕ) (a b : Decimal) (r : MethodAnswer) → scaled a ≡ decimalAt v i 19 → scaled b ≡ decimalAt v i 22 → toldMethod r ≡ linearOf (scaled a) (scaled b) → toldMethod r ≡ linearAt v i
+pub linear-is : (v : View) (i : ℕ) (a b : Decimal) (r : MethodAnswer) → scaled a ≡ decimalAt v i linear-a → scaled b ≡ decimalAt v i linear-b → toldMethod r ≡ linearOf (scaled a) (scaled b) → toldMethod r ≡ linearAt v i
 unfolding linearAt
 linear-is v i a b r p q u = u ∙ rw (p, q)
 
-pub rat-func-is : (v : View) (i : ℕ) (b c e f : Decimal) (r : MethodAnswer) → scaled b ≡ decimalAt v i 6 → scaled c ≡ decimalAt v i 9 → scaled e ≡ decimalAt v i 12 → scaled f ≡ decimalAt v i 15
+pub rat-func-is : (v : View) (i : ℕ) (b c e f : Decimal) (r : MethodAnswer) → scaled b ≡ decimalAt v i coeff-b → scaled c ≡ decimalAt v i coeff-c → scaled e ≡ decimalAt v i coeff-e → scaled f ≡ decimalAt v i coeff-f
     → toldMethod r ≡ ratFunc (scaled b) (scaled c) (scaled e) (scaled f) → toldMethod r ≡ ratFuncAt v i
 unfolding ratFuncAt
 rat-func-is v i b c e f r p q u w z = z ∙ rw (p, q, u, w)
 
 pub ruleset kinds = (linear-is, rat-func-is)
 
-module _ (v : View) (i k : ℕ) (p : k ≡ v .slots method i 4) where
+module _ (v : View) (i k : ℕ) (p : k ≡ v .slots method i conversion-type) where
   pub of-linear : (r : MethodAnswer) → k ≡ 20 → toldMethod r ≡ linearAt v i → toldMethod r ≡ coefficients v i
   unfolding coefficients
   of-linear r h q = rw (← p, eq-eqb k 20 h, q)
@@ -61,14 +62,14 @@ module _ (v : View) where
 
   -- r is what `coefficients_of` gave
   module _ (n i : ℕ) (p : n ≡ v .counts method) (q : Converting v i) (h : i < n) (r : MethodAnswer) (u : toldMethod r ≡ coefficients v i) where
-    look : cond (isGiven (toldMethod r)) (convertsFrom (v .counts method - (i + 1)) v (suc i)) (text.refused 10 (v .slots method i 0)) ≡ converts v
+    look : cond (isGiven (toldMethod r)) (convertsFrom (v .counts method - (i + 1)) v (suc i)) (text.refused 10 (v .slots method i own-name)) ≡ converts v
     unfolding convertsFrom
     look = let z : v .counts method - i ≡ suc (v .counts method - (i + 1)) = omega arith in rw u (rw z at (q .same))
 
     pub converting-on : (c : Coefficients) → r ≡ answer.Whole c → Converting v (i + 1)
     converting-on c y = let z : suc i ≡ i + 1 = omega arith in record { within = omega arith; same = rw (y, z) at look }
 
-    pub converting-none : (k m : ℕ) → r ≡ answer.Refused k → m ≡ v .slots method i 0 → text.refused 10 m ≡ converts v
+    pub converting-none : (k m : ℕ) → r ≡ answer.Refused k → m ≡ v .slots method i own-name → text.refused 10 m ≡ converts v
     converting-none k m y w = rw w (rw y at look)
 
 pub ruleset convertings = (converting-start, converting-end, converting-on, converting-none, needs)

@@ -10,6 +10,7 @@ use Rattle.convert.specs.Method.{ratFunc, linearOf, identicalOf}
 use Rattle.convert.specs.declared.method.Coefficients.{Coefficients}
 use Rattle.rows.specs.Codes.{LINEAR, RAT-FUNC}
 use Rattle.rows.specs.Sections.{method}
+use Rattle.rows.specs.Slots.{own-name, conversion-type, coeff-b, coeff-c, coeff-e, coeff-f, linear-a, linear-b}
 use Rattle.grammar.specs.Move.{View, decimalSlots}
 use Rattle.methods.specs.declared.Converted.{Converted}
 use Rattle.methods.specs.declared.Converted.the-variants as variant
@@ -20,22 +21,22 @@ decimalAt v i k = decimalSlots v method i k
 
 -- "LINEAR with COEFFS_LINEAR": a and b; "RAT_FUNC with COEFFS": b, c, e, f
 unfoldable pub linearAt : View → ℕ → Answer Coefficients
-linearAt v i = linearOf (decimalAt v i 19) (decimalAt v i 22)
+linearAt v i = linearOf (decimalAt v i linear-a) (decimalAt v i linear-b)
 
 unfoldable pub ratFuncAt : View → ℕ → Answer Coefficients
-ratFuncAt v i = ratFunc (decimalAt v i 6) (decimalAt v i 9) (decimalAt v i 12) (decimalAt v i 15)
+ratFuncAt v i = ratFunc (decimalAt v i coeff-b) (decimalAt v i coeff-c) (decimalAt v i coeff-e) (decimalAt v i coeff-f)
 
 -- the four coefficients of method i; IDENTICAL has 1, 0, 0, 1, and so has TAB_VERB, which asks none
 unfoldable pub coefficients : View → ℕ → Answer Coefficients
 coefficients v i =
-    cond (eqb (v .slots method i 4) LINEAR) (linearAt v i)
-    (cond (eqb (v .slots method i 4) RAT-FUNC) (ratFuncAt v i)
+    cond (eqb (v .slots method i conversion-type) LINEAR) (linearAt v i)
+    (cond (eqb (v .slots method i conversion-type) RAT-FUNC) (ratFuncAt v i)
     (given identicalOf))
 
 -- the first method from i on that has none is 10 at its name
 unfoldable pub convertsFrom : ℕ → View → ℕ → text.Answer (Unit {0})
 convertsFrom zero v i = text.given tt
-convertsFrom (suc f) v i = cond (isGiven (coefficients v i)) (convertsFrom f v (suc i)) (text.refused 10 (v .slots method i 0))
+convertsFrom (suc f) v i = cond (isGiven (coefficients v i)) (convertsFrom f v (suc i)) (text.refused 10 (v .slots method i own-name))
 
 abbrev pub converts : View → text.Answer (Unit {0})
 converts v = convertsFrom (v .counts method) v 0

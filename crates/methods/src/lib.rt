@@ -7,6 +7,14 @@ use grammar::view::METHOD;
 use grammar::view::count_of;
 use grammar::view::decimal_slots;
 use grammar::view::slot_of;
+use rows::slots::COEFF_B;
+use rows::slots::COEFF_C;
+use rows::slots::COEFF_E;
+use rows::slots::COEFF_F;
+use rows::slots::CONVERSION_TYPE;
+use rows::slots::LINEAR_A;
+use rows::slots::LINEAR_B;
+use rows::slots::OWN_NAME;
 use words::codes::LINEAR;
 use words::codes::RAT_FUNC;
 ghost use mathlib.Core.Path.{_≡_};
@@ -25,8 +33,8 @@ fn linear_at(t: &[u64], i: u16) -> MethodAnswer
     ensures { λ r. ⌜ toldMethod r ≡ linearAt (viewIn (now (t .entry))) i ⌝ }
 {
     linear(
-        decimal_slots(t, METHOD, i, 19),
-        decimal_slots(t, METHOD, i, 22),
+        decimal_slots(t, METHOD, i, LINEAR_A),
+        decimal_slots(t, METHOD, i, LINEAR_B),
     )
 }
 
@@ -34,10 +42,10 @@ fn linear_at(t: &[u64], i: u16) -> MethodAnswer
 fn rat_func_at(t: &[u64], i: u16) -> MethodAnswer
     ensures { λ r. ⌜ toldMethod r ≡ ratFuncAt (viewIn (now (t .entry))) i ⌝ }
 {
-    let b = decimal_slots(t, METHOD, i, 6);
-    let c = decimal_slots(t, METHOD, i, 9);
-    let e = decimal_slots(t, METHOD, i, 12);
-    let f = decimal_slots(t, METHOD, i, 15);
+    let b = decimal_slots(t, METHOD, i, COEFF_B);
+    let c = decimal_slots(t, METHOD, i, COEFF_C);
+    let e = decimal_slots(t, METHOD, i, COEFF_E);
+    let f = decimal_slots(t, METHOD, i, COEFF_F);
     rat_func(b, c, e, f)
 }
 
@@ -45,7 +53,7 @@ fn rat_func_at(t: &[u64], i: u16) -> MethodAnswer
 pub fn coefficients_of(t: &[u64], i: u16) -> MethodAnswer
     ensures { λ r. ⌜ toldMethod r ≡ coefficients (viewIn (now (t .entry))) i ⌝ }
 {
-    let kind = slot_of(t, METHOD, i, 4);
+    let kind = slot_of(t, METHOD, i, CONVERSION_TYPE);
     if kind == (LINEAR as u64) {
         return linear_at(t, i);
     }
@@ -69,7 +77,7 @@ pub fn convert_all(t: &[u64]) -> Converted
             MethodAnswer::Refused { no: _ } => {
                 return Converted::Refused {
                     no: 10,
-                    place: slot_of(t, METHOD, i, 0) as usize,
+                    place: slot_of(t, METHOD, i, OWN_NAME) as usize,
                 };
             }
         }

@@ -15,6 +15,7 @@ use Rattle.number.specs.Answer as number
 use Rattle.number.specs.Most.{mostObjects}
 use Rattle.records.specs.Cells.{countIn}
 use Rattle.rows.specs.Sections.{sections, object}
+use Rattle.rows.specs.Slots.{own-name, own-name-past}
 use Rattle.grammar.specs.Move.{View, viewIn}
 use Rattle.grammar.specs.Parameter.{findFrom, find}
 use Rattle.place.specs.declared.judge.Standing.{Standing}
@@ -31,7 +32,7 @@ module _ (x : List ℕ) (v : View) (j a e : ℕ) where
   below-from : (f i : ℕ) → findFrom f x v j i a e ≤ i + f
   unfolding findFrom
   below-from zero i = omega arith
-  below-from (suc f) i = below-turn (samePart x (v .slots j i 0) (v .slots j i 1) x a e) f i (findFrom f x v j (suc i) a e) (below-from f (suc i))
+  below-from (suc f) i = below-turn (samePart x (v .slots j i own-name) (v .slots j i own-name-past) x a e) f i (findFrom f x v j (suc i) a e) (below-from f (suc i))
 
   pub find-below : find x v j a e ≤ v .counts j
   find-below = omega (arith, below-from (v .counts j) 0)
@@ -109,7 +110,7 @@ module _ (image : List ℕ) (base : ℕ) (x : List ℕ) (v : View) where
 
   turn-stands : (seen : List ℕ) (i used u : ℕ) → getD seen i 0 ≡ 0 → turn image base x v seen i used ≡ given u → Stands i
   unfolding turn
-  turn-stands seen i used u z q = weighed-stands i used u (v .slots object i 0) (judgeObject image base x v i used) refl (rw (eq-eqb (getD seen i 0) 0 z) at q)
+  turn-stands seen i used u z q = weighed-stands i used u (v .slots object i own-name) (judgeObject image base x v i used) refl (rw (eq-eqb (getD seen i 0) 0 z) at q)
 
   -- object j's turn and then those of js; ih is what is known of those
   module _ (j : ℕ) (js seen : List ℕ) (used n i : ℕ) (z : getD seen i 0 ≡ 0) (m : In i (j ∷ js))

@@ -6,6 +6,7 @@ use mathlib.Core.Bool.{Bool}
 use borrow.Author.Tests.{eq-eqb, ne-eqb}
 use lib.Dec.{eqb}
 use Rattle.rows.specs.Sections.{file, layout, object}
+use Rattle.rows.specs.Slots.{common-byte-order, common-alignment-byte, common-alignment-word, common-alignment-long, layout-alignment-byte, layout-alignment-word, layout-alignment-long, object-address, object-byte-order}
 use Rattle.grammar.specs.Move.{View}
 use Rattle.place.specs.declared.order.Aligns.{Aligns}
 use Rattle.place.specs.declared.walk.Ground.{Ground}
@@ -21,13 +22,13 @@ module _ (v : View) (l k c w : ℕ) (p : w ≡ v .slots layout l k) where
   unfolding word
   word-own h r pr = rw (← p, ne-eqb w 0 h, pr)
 
-pub aligns-are : (v : View) (l a b c : ℕ) → a ≡ word v l 5 6 → b ≡ word v l 7 8 → c ≡ word v l 9 10 → _≡_ {A = Aligns} (record { byte = a; word = b; long = c }) (alignsOf v l)
+pub aligns-are : (v : View) (l a b c : ℕ) → a ≡ word v l layout-alignment-byte common-alignment-byte → b ≡ word v l layout-alignment-word common-alignment-word → c ≡ word v l layout-alignment-long common-alignment-long → _≡_ {A = Aligns} (record { byte = a; word = b; long = c }) (alignsOf v l)
 unfolding alignsOf
 aligns-are v l a b c pa pb pc = rw (pa, pb, pc)
 
 -- w is the object's own byte order
-module _ (v : View) (i w : ℕ) (p : w ≡ v .slots object i 20) where
-  pub first-common : w ≡ 0 → (m : ℕ) → m ≡ v .slots file 0 4 → eqb m 8 ≡ firstOf v i
+module _ (v : View) (i w : ℕ) (p : w ≡ v .slots object i object-byte-order) where
+  pub first-common : w ≡ 0 → (m : ℕ) → m ≡ v .slots file 0 common-byte-order → eqb m 8 ≡ firstOf v i
   unfolding firstOf
   first-common h m pm = rw (← p, eq-eqb w 0 h, pm)
 
@@ -35,7 +36,7 @@ module _ (v : View) (i w : ℕ) (p : w ≡ v .slots object i 20) where
   unfolding firstOf
   first-own h = rw (← p, ne-eqb w 0 h)
 
-pub ground-is : (x : List ℕ) (v : View) (base i at address l : ℕ) (first : Bool) (aligns : Aligns) → at ≡ v .slots object i 5 → address ≡ min at 4294967295 → first ≡ firstOf v i
+pub ground-is : (x : List ℕ) (v : View) (base i at address l : ℕ) (first : Bool) (aligns : Aligns) → at ≡ v .slots object i object-address → address ≡ min at 4294967295 → first ≡ firstOf v i
     → l ≡ layoutNumber x v i → aligns ≡ alignsOf v l → _≡_ {A = Ground} (record { address = address; base = base; first = first; aligns = aligns }) (groundOf x v base i)
 unfolding groundOf
 ground-is x v base i at address l first aligns pt pa pf pl pw = rw (pa, pt, pf, pw, pl)

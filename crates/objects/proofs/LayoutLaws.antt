@@ -7,6 +7,7 @@ use native.Mathlib.Omega.{arith}
 use borrow.Author.Tests.{eq-eqb, ne-eqb}
 use Rattle.cell.specs.Kind.{isType}
 use Rattle.rows.specs.Sections.{layout, object}
+use Rattle.rows.specs.Slots.{block-code, fnc-values-position, fnc-values-type, axis-pts-x-position, axis-pts-x-type, axis-pts-y-position, axis-pts-y-type, no-axis-pts-x-position, no-axis-pts-x-type, no-axis-pts-y-position, no-axis-pts-y-type, object-type, object-layout, object-layout-past}
 use Rattle.grammar.specs.Move.{View}
 use Rattle.grammar.specs.Parameter.{find, foundAt}
 use Rattle.grammar.specs.declared.names.Found.{Found}
@@ -30,7 +31,7 @@ pub part-is : (v : View) (l p k at kind position : ℕ) (present : Bool) → at 
 unfolding part
 part-is v l p k at kind position present pa pk pp pt = rw (pt, pp, pa, pk)
 
-pub layout-is : (v : View) (l : ℕ) (a b c d e : Entry) → a ≡ part v l 11 12 → b ≡ part v l 16 17 → c ≡ part v l 21 22 → d ≡ part v l 26 27 → e ≡ part v l 29 30
+pub layout-is : (v : View) (l : ℕ) (a b c d e : Entry) → a ≡ part v l fnc-values-position fnc-values-type → b ≡ part v l axis-pts-x-position axis-pts-x-type → c ≡ part v l axis-pts-y-position axis-pts-y-type → d ≡ part v l no-axis-pts-x-position no-axis-pts-x-type → e ≡ part v l no-axis-pts-y-position no-axis-pts-y-type
     → _≡_ {A = Layout} (record { values = a; x = b; y = c; nx = d; ny = e }) (layoutAt v l)
 unfolding layoutAt
 layout-is v l a b c d e pa pb pc pd pe = rw (pa, pb, pc, pd, pe)
@@ -40,14 +41,14 @@ pub measured-is : (k : ℕ) (b : Bool) (n : Entry) → b ≡ isType k → n ≡ 
 unfolding measured
 measured-is k b n pb pn = rw (pb, pn)
 
-pub number-is : (x : List ℕ) (v : View) (i a e r : ℕ) → a ≡ v .slots object i 6 → e ≡ v .slots object i 7 → r ≡ led x v layout a e → r ≡ layoutNumber x v i
+pub number-is : (x : List ℕ) (v : View) (i a e r : ℕ) → a ≡ v .slots object i object-layout → e ≡ v .slots object i object-layout-past → r ≡ led x v layout a e → r ≡ layoutNumber x v i
 number-is x v i a e r pa pe pr = pr ∙ rw (pa, pe)
 
 pub ruleset parts = (part-is, layout-is, measured-is, number-is)
 
 -- c is the code of the object's word
-module _ (x : List ℕ) (v : View) (i c : ℕ) (p : c ≡ v .slots object i 3) where
-  pub layout-measured : c ≡ 10 → (k : ℕ) (r : Layout) → k ≡ v .slots object i 4 → r ≡ measured k → r ≡ layoutOf x v i
+module _ (x : List ℕ) (v : View) (i c : ℕ) (p : c ≡ v .slots object i block-code) where
+  pub layout-measured : c ≡ 10 → (k : ℕ) (r : Layout) → k ≡ v .slots object i object-type → r ≡ measured k → r ≡ layoutOf x v i
   unfolding layoutOf
   layout-measured h k r pk pr = rw (← p, eq-eqb c 10 h, pr, pk)
 

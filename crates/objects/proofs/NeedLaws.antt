@@ -5,6 +5,7 @@ use mathlib.Core.List.{List}
 use mathlib.Core.Bool.{true, false}
 use borrow.Author.Tests.{eq-eqb, ne-eqb}
 use Rattle.rows.specs.Sections.{object, axis}
+use Rattle.rows.specs.Slots.{block-code, object-type, object-max-points, number-of-values, axis-attribute, axis-max-points, axis-pts-ref, axis-pts-ref-past}
 use Rattle.grammar.specs.Move.{View}
 use Rattle.place.specs.Told.{toldPlaced}
 use Rattle.place.specs.Walk.{placement}
@@ -22,16 +23,16 @@ value-is x y px py = rw (px, py)
 
 -- m is a number of the object's record, and n the least of it and the greatest one
 module _ (v : View) (i m n : ℕ) where
-  pub axis-pts-is : (x y : Axis) → m ≡ v .slots object i 12 → n ≡ min m 256 → x ≡ ownAxis n → y ≡ noAxis → _≡_ {A = Need} (record { values = false; x = x; y = y }) (axisPtsNeed v i)
+  pub axis-pts-is : (x y : Axis) → m ≡ v .slots object i object-max-points → n ≡ min m 256 → x ≡ ownAxis n → y ≡ noAxis → _≡_ {A = Need} (record { values = false; x = x; y = y }) (axisPtsNeed v i)
   unfolding axisPtsNeed
   axis-pts-is x y pm pn px py = rw (px, py, pn, pm)
 
-  pub block-is : (y : Axis) → m ≡ v .slots object i 25 → n ≡ min m 65535 → y ≡ noAxis
+  pub block-is : (y : Axis) → m ≡ v .slots object i number-of-values → n ≡ min m 65535 → y ≡ noAxis
       → _≡_ {A = Need} (record { values = true; x = record { stored = false; most = n; points = n }; y = y }) (blockNeed v i)
   unfolding blockNeed
   block-is y pm pn py = rw (py, pn, pm)
 
-pub shared-is : (x : List ℕ) (v : View) (a from to r : ℕ) → from ≡ v .slots axis a 14 → to ≡ v .slots axis a 15 → r ≡ led x v object from to → r ≡ sharedBy x v a
+pub shared-is : (x : List ℕ) (v : View) (a from to r : ℕ) → from ≡ v .slots axis a axis-pts-ref → to ≡ v .slots axis a axis-pts-ref-past → r ≡ led x v object from to → r ≡ sharedBy x v a
 shared-is x v a from to r pf pt pr = pr ∙ rw (pf, pt)
 
 pub ruleset numbers = (value-is, axis-pts-is, block-is, shared-is)
@@ -50,7 +51,7 @@ module _ (image : List ℕ) (base : ℕ) (x : List ℕ) (v : View) where
     points-none k y = sym (ap (λ (z : Placed). pointsIn (toldPlaced z)) y) ∙ points-are
 
   -- m is the AXIS_DESCR's maximum, c the code of its kind
-  module _ (a m n c : ℕ) (pm : m ≡ v .slots axis a 6) (pn : n ≡ min m 256) (pc : c ≡ v .slots axis a 1) where
+  module _ (a m n c : ℕ) (pm : m ≡ v .slots axis a axis-max-points) (pn : n ≡ min m 256) (pc : c ≡ v .slots axis a axis-attribute) where
     pub axis-shared : c ≡ 24 → (s k : ℕ) → s ≡ sharedBy x v a → k ≡ sharedPoints image base x v s → _≡_ {A = Axis} (record { stored = false; most = n; points = k }) (axisNeed image base x v a)
     unfolding axisNeed
     axis-shared h s k ps pk = rw (← pc, eq-eqb c 24 h, pk, ps, pn, pm)
@@ -70,7 +71,7 @@ module _ (image : List ℕ) (base : ℕ) (x : List ℕ) (v : View) where
     map-is b pb py = rw (px, py, pa, pb)
 
   -- k is the code of the CHARACTERISTIC's type
-  module _ (i k : ℕ) (r : Need) (p : k ≡ v .slots object i 4) where
+  module _ (i k : ℕ) (r : Need) (p : k ≡ v .slots object i object-type) where
     pub of-block : k ≡ 16 → r ≡ blockNeed v i → r ≡ characteristicNeed image base x v i
     unfolding characteristicNeed
     of-block h q = rw (← p, eq-eqb k 16 h, q)
@@ -89,7 +90,7 @@ module _ (image : List ℕ) (base : ℕ) (x : List ℕ) (v : View) where
       of-value g f q = rw (← p, ne-eqb k 16 h, ne-eqb k 17 g, ne-eqb k 18 f, q)
 
   -- c is the code of the object's word
-  module _ (i c : ℕ) (r : Need) (p : c ≡ v .slots object i 3) where
+  module _ (i c : ℕ) (r : Need) (p : c ≡ v .slots object i block-code) where
     pub of-axis-pts : c ≡ 7 → r ≡ axisPtsNeed v i → r ≡ needOf image base x v i
     unfolding needOf
     of-axis-pts h q = rw (← p, eq-eqb c 7 h, q)

@@ -8,6 +8,7 @@ use Rattle.number.specs.Answer.{refused}
 use Rattle.cell.specs.Kind.{shapeOf}
 use Rattle.cell.specs.Mask.{maskRule}
 use Rattle.rows.specs.Sections.{object}
+use Rattle.rows.specs.Slots.{bit-mask-seen, bit-mask}
 use Rattle.grammar.specs.Move.{View}
 use Rattle.place.specs.Judge.{judgedObject}
 use Rattle.place.specs.Told.{toldPlaced, toldJudged}
@@ -22,7 +23,7 @@ use Rattle.place.specs.declared.walk.Placed.{Placed}
 use Rattle.place.specs.declared.walk.Placed.the-variants as place
 use Rattle.objects.specs.Object.{layoutOf, groundOf, needOf, maskFits, judgeObject, noPlaces, placesIn, placesOf}
 
-pub mask-is : (x : List ℕ) (v : View) (i has mask : ℕ) (l : Layout) (b : Bool) → has ≡ v .slots object i 21 → mask ≡ v .slots object i 22 → l ≡ layoutOf x v i
+pub mask-is : (x : List ℕ) (v : View) (i has mask : ℕ) (l : Layout) (b : Bool) → has ≡ v .slots object i bit-mask-seen → mask ≡ v .slots object i bit-mask → l ≡ layoutOf x v i
     → b ≡ maskRule (shapeOf (l .values .kind)) mask → (eqb has 0 || b) ≡ maskFits x v i
 unfolding maskFits
 mask-is x v i has mask l b ph pm pl pb = rw (pb, pl, pm, ph)

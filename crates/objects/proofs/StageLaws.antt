@@ -14,6 +14,7 @@ use Rattle.text.specs.Answer.{Answer, given, refused, with}
 use Rattle.number.specs.Answer as number
 use Rattle.number.specs.Most.{mostObjects}
 use Rattle.rows.specs.Sections.{object, axis}
+use Rattle.rows.specs.Slots.{own-name, axis-descr-seen, axis-attribute}
 use Rattle.grammar.specs.Move.{View}
 use Rattle.place.specs.Told.{toldJudged}
 use Rattle.place.specs.declared.judge.Judged.{Judged}
@@ -41,15 +42,15 @@ module _ (image : List ℕ) (base : ℕ) (x : List ℕ) (v : View) (i used : ℕ
     pub total-fits : (s : Standing) → r ≡ judge.Stands s → Fits w32 (s .total)
     total-fits s y = record { fits = omega (arith, share image base x v i used s (sym p ∙ ap toldJudged y) .most) }
 
-    pub weigh-stands : (s : Standing) → r ≡ judge.Stands s → given (s .total) ≡ totalOr (v .slots object i 0) (judgeObject image base x v i used)
+    pub weigh-stands : (s : Standing) → r ≡ judge.Stands s → given (s .total) ≡ totalOr (v .slots object i own-name) (judgeObject image base x v i used)
     weigh-stands s y = rw (← p, y)
 
-    pub weigh-refused : (n m : ℕ) → r ≡ judge.Refused n → m ≡ v .slots object i 0 → refused n m ≡ totalOr (v .slots object i 0) (judgeObject image base x v i used)
+    pub weigh-refused : (n m : ℕ) → r ≡ judge.Refused n → m ≡ v .slots object i own-name → refused n m ≡ totalOr (v .slots object i own-name) (judgeObject image base x v i used)
     weigh-refused n m y q = rw (← p, y, q)
 
 pub ruleset weights = (total-fits, weigh-stands, weigh-refused)
 
-pub naming-is : (v : View) (i k many a kind : ℕ) → many ≡ v .slots object i 26 → a ≡ axisAt v i k → kind ≡ v .slots axis a 1
+pub naming-is : (v : View) (i k many a kind : ℕ) → many ≡ v .slots object i axis-descr-seen → a ≡ axisAt v i k → kind ≡ v .slots axis a axis-attribute
     → (ltb k many && eqb kind 24) ≡ names v i k
 unfolding names
 naming-is v i k many a kind pm pa pk = rw (pk, pa, pm)
@@ -65,7 +66,7 @@ goes-one image base x v seen i used r seen′ p q = record { on = λ rest. rw (p
 module _ (image : List ℕ) (base : ℕ) (x : List ℕ) (v : View) (seen : List ℕ) where
   -- b is what `is_open` gave
   module _ (i used : ℕ) (b : Bool) (p : b ≡ eqb (getD seen i 0) 0) where
-    pub turn-open : b ≡ true → (r : Answer ℕ) → r ≡ totalOr (v .slots object i 0) (judgeObject image base x v i used) → r ≡ turn image base x v seen i used
+    pub turn-open : b ≡ true → (r : Answer ℕ) → r ≡ totalOr (v .slots object i own-name) (judgeObject image base x v i used) → r ≡ turn image base x v seen i used
     unfolding turn
     turn-open h r q = rw (← p, h, q)
 

@@ -13,6 +13,7 @@ use Rattle.text.specs.Answer.{Answer, given, refused, with}
 use Rattle.number.specs.Answer as number
 use Rattle.number.specs.Most.{mostObjects, mostElements}
 use Rattle.rows.specs.Sections.{object}
+use Rattle.rows.specs.Slots.{own-name}
 use Rattle.grammar.specs.Move.{View}
 use Rattle.place.specs.declared.judge.Standing.{Standing}
 use Rattle.objects.specs.Object.{axisAt, sharedBy, judgeObject, elementsOf}
@@ -74,9 +75,9 @@ module _ (image : List ℕ) (base : ℕ) (x : List ℕ) (v : View) where
     pub own : eqb (getD (marked seen j) j 0) 0 ≡ false
 
   took-turn : (seen : List ℕ) (j used u : ℕ) → j < length seen → j < v .counts object → (b : Bool) → eqb (getD seen j 0) 0 ≡ b
-      → cond b (stage.totalOr (v .slots object j 0) (judgeObject image base x v j used)) (given used) ≡ given u → Took seen j used u
+      → cond b (stage.totalOr (v .slots object j own-name) (judgeObject image base x v j used)) (given used) ≡ given u → Took seen j used u
   took-turn seen j used u l h true e q =
-      let k : (u ≡ used + elementsOf image base x v j) × (u ≤ mostElements) = share-told j used (v .slots object j 0) u (judgeObject image base x v j used) refl q in
+      let k : (u ≡ used + elementsOf image base x v j) × (u ≤ mostElements) = share-told j used (v .slots object j own-name) u (judgeObject image base x v j used) refl q in
       record {
         total = λ t. rw e (k .0 ∙ rw t (sym (sum-marked seen j l h e)));
         most = λ t. k .1;

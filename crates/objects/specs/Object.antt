@@ -10,6 +10,7 @@ use Rattle.cell.specs.Kind.{shapeOf, isType}
 use Rattle.cell.specs.Mask.{maskRule}
 use Rattle.rows.specs.Codes.{AXIS-PTS, CHARACTERISTIC, MEASUREMENT, MSB-FIRST, VAL-BLK, CURVE, MAP, COM-AXIS}
 use Rattle.rows.specs.Sections.{file, layout, object, axis}
+use Rattle.rows.specs.Slots.{first-held, block-code, common-byte-order, common-alignment-byte, common-alignment-word, common-alignment-long, layout-alignment-byte, layout-alignment-word, layout-alignment-long, fnc-values-position, fnc-values-type, axis-pts-x-position, axis-pts-x-type, axis-pts-y-position, axis-pts-y-type, no-axis-pts-x-position, no-axis-pts-x-type, no-axis-pts-y-position, no-axis-pts-y-type, object-type, object-address, object-layout, object-layout-past, object-max-points, object-byte-order, bit-mask-seen, bit-mask, number-of-values, axis-attribute, axis-max-points, axis-pts-ref, axis-pts-ref-past}
 use Rattle.grammar.specs.Move.{View}
 use Rattle.grammar.specs.Parameter.{find}
 use Rattle.place.specs.Walk.{placement}
@@ -36,7 +37,14 @@ part v l p k = record { present = isType (v .slots layout l k); position = min (
 
 -- "Layout parts: FNC_VALUES, AXIS_PTS_X/_Y, NO_AXIS_PTS_X/_Y"
 unfoldable pub layoutAt : View → ℕ → Layout
-layoutAt v l = record { values = part v l 11 12; x = part v l 16 17; y = part v l 21 22; nx = part v l 26 27; ny = part v l 29 30 }
+layoutAt v l =
+    record {
+      values = part v l fnc-values-position fnc-values-type;
+      x = part v l axis-pts-x-position axis-pts-x-type;
+      y = part v l axis-pts-y-position axis-pts-y-type;
+      nx = part v l no-axis-pts-x-position no-axis-pts-x-type;
+      ny = part v l no-axis-pts-y-position no-axis-pts-y-type;
+    }
 
 abbrev pub noEntry : Entry
 noEntry = record { present = false; position = 0; kind = 0 }
@@ -48,10 +56,10 @@ measured k = record { values = record { present = isType k; position = 0; kind =
 module _ (x : List ℕ) (v : View) where
   -- the number of object i's layout
   abbrev pub layoutNumber : ℕ → ℕ
-  layoutNumber i = led x v layout (v .slots object i 6) (v .slots object i 7)
+  layoutNumber i = led x v layout (v .slots object i object-layout) (v .slots object i object-layout-past)
 
   unfoldable pub layoutOf : ℕ → Layout
-  layoutOf i = cond (eqb (v .slots object i 3) MEASUREMENT) (measured (v .slots object i 4)) (layoutAt v (layoutNumber i))
+  layoutOf i = cond (eqb (v .slots object i block-code) MEASUREMENT) (measured (v .slots object i object-type)) (layoutAt v (layoutNumber i))
 
 -- ---- the ground
 
@@ -60,16 +68,21 @@ unfoldable pub word : View → ℕ → ℕ → ℕ → ℕ
 word v l k c = cond (eqb (v .slots layout l k) 0) (min (v .slots file 0 c) 255) (min (v .slots layout l k) 255)
 
 unfoldable pub alignsOf : View → ℕ → Aligns
-alignsOf v l = record { byte = word v l 5 6; word = word v l 7 8; long = word v l 9 10 }
+alignsOf v l =
+    record {
+      byte = word v l layout-alignment-byte common-alignment-byte;
+      word = word v l layout-alignment-word common-alignment-word;
+      long = word v l layout-alignment-long common-alignment-long;
+    }
 
 -- "Byte order: the object's, else MOD_COMMON's, else MSB_LAST."
 unfoldable pub firstOf : View → ℕ → Bool
-firstOf v i = cond (eqb (v .slots object i 20) 0) (eqb (v .slots file 0 4) MSB-FIRST) (eqb (v .slots object i 20) MSB-FIRST)
+firstOf v i = cond (eqb (v .slots object i object-byte-order) 0) (eqb (v .slots file 0 common-byte-order) MSB-FIRST) (eqb (v .slots object i object-byte-order) MSB-FIRST)
 
 -- (a MEASUREMENT has one part, which no alignment moves)
 unfoldable pub groundOf : List ℕ → View → ℕ → ℕ → Ground
 groundOf x v base i =
-    record { address = min (v .slots object i 5) 4294967295; base = base; first = firstOf v i; aligns = alignsOf v (layoutNumber x v i) }
+    record { address = min (v .slots object i object-address) 4294967295; base = base; first = firstOf v i; aligns = alignsOf v (layoutNumber x v i) }
 
 -- ---- the need
 
@@ -84,19 +97,19 @@ abbrev pub valueNeed : Need
 valueNeed = record { values = true; x = noAxis; y = noAxis }
 
 unfoldable pub axisPtsNeed : View → ℕ → Need
-axisPtsNeed v i = record { values = false; x = ownAxis (min (v .slots object i 12) 256); y = noAxis }
+axisPtsNeed v i = record { values = false; x = ownAxis (min (v .slots object i object-max-points) 256); y = noAxis }
 
 -- a VAL_BLK: NUMBER values
 unfoldable pub blockNeed : View → ℕ → Need
-blockNeed v i = record { values = true; x = record { stored = false; most = min (v .slots object i 25) 65535; points = min (v .slots object i 25) 65535 }; y = noAxis }
+blockNeed v i = record { values = true; x = record { stored = false; most = min (v .slots object i number-of-values) 65535; points = min (v .slots object i number-of-values) 65535 }; y = noAxis }
 
 -- the place of AXIS_DESCR k of object i among all of them
 abbrev pub axisAt : View → ℕ → ℕ → ℕ
-axisAt v i k = min (v .slots object i 2) mostAxes + k
+axisAt v i k = min (v .slots object i first-held) mostAxes + k
 
 -- the AXIS_PTS that AXIS_DESCR a names
 abbrev pub sharedBy : List ℕ → View → ℕ → ℕ
-sharedBy x v a = led x v object (v .slots axis a 14) (v .slots axis a 15)
+sharedBy x v a = led x v object (v .slots axis a axis-pts-ref) (v .slots axis a axis-pts-ref-past)
 
 abbrev pub pointsIn : Answer Reached → ℕ
 pointsIn (given s) = s .places .cx
@@ -111,7 +124,7 @@ placesIn (refused k) = noPlaces
 
 -- "mask breaks its rule" (11) where this is false: the mask is for the values
 unfoldable pub maskFits : List ℕ → View → ℕ → Bool
-maskFits x v i = eqb (v .slots object i 21) 0 || maskRule (shapeOf (layoutOf x v i .values .kind)) (v .slots object i 22)
+maskFits x v i = eqb (v .slots object i bit-mask-seen) 0 || maskRule (shapeOf (layoutOf x v i .values .kind)) (v .slots object i bit-mask)
 
 module _ (image : List ℕ) (base : ℕ) (x : List ℕ) (v : View) where
   -- "for COM_AXIS it is that of the AXIS_PTS named": how many points AXIS_PTS s has
@@ -121,9 +134,9 @@ module _ (image : List ℕ) (base : ℕ) (x : List ℕ) (v : View) where
   -- AXIS_DESCR a: "STD_AXIS, COM_AXIS with AXIS_PTS_REF"
   unfoldable pub axisNeed : ℕ → Axis
   axisNeed a =
-      cond (eqb (v .slots axis a 1) COM-AXIS)
-      (record { stored = false; most = min (v .slots axis a 6) 256; points = sharedPoints (sharedBy x v a) })
-      (ownAxis (min (v .slots axis a 6) 256))
+      cond (eqb (v .slots axis a axis-attribute) COM-AXIS)
+      (record { stored = false; most = min (v .slots axis a axis-max-points) 256; points = sharedPoints (sharedBy x v a) })
+      (ownAxis (min (v .slots axis a axis-max-points) 256))
 
   -- a CURVE and a MAP: values over their axes
   unfoldable pub curveNeed : ℕ → Need
@@ -135,15 +148,15 @@ module _ (image : List ℕ) (base : ℕ) (x : List ℕ) (v : View) where
   -- "VALUE, VAL_BLK with NUMBER, CURVE, MAP"
   unfoldable pub characteristicNeed : ℕ → Need
   characteristicNeed i =
-      cond (eqb (v .slots object i 4) VAL-BLK) (blockNeed v i)
-      (cond (eqb (v .slots object i 4) CURVE) (curveNeed i)
-      (cond (eqb (v .slots object i 4) MAP) (mapNeed i)
+      cond (eqb (v .slots object i object-type) VAL-BLK) (blockNeed v i)
+      (cond (eqb (v .slots object i object-type) CURVE) (curveNeed i)
+      (cond (eqb (v .slots object i object-type) MAP) (mapNeed i)
       valueNeed))
 
   unfoldable pub needOf : ℕ → Need
   needOf i =
-      cond (eqb (v .slots object i 3) AXIS-PTS) (axisPtsNeed v i)
-      (cond (eqb (v .slots object i 3) CHARACTERISTIC) (characteristicNeed i)
+      cond (eqb (v .slots object i block-code) AXIS-PTS) (axisPtsNeed v i)
+      (cond (eqb (v .slots object i block-code) CHARACTERISTIC) (characteristicNeed i)
       valueNeed)
 
   -- "each object's layout and mask (11), counts (12, 13), share of the element total (8), element bytes (12)", after others with so many elements

@@ -10,6 +10,7 @@ use Rattle.number.specs.Answer as number
 use Rattle.number.specs.Most.{mostObjects}
 use Rattle.rows.specs.Codes.{COM-AXIS}
 use Rattle.rows.specs.Sections.{object, axis}
+use Rattle.rows.specs.Slots.{own-name, axis-descr-seen, axis-attribute}
 use Rattle.grammar.specs.Move.{View}
 use Rattle.place.specs.declared.judge.Standing.{Standing}
 use Rattle.objects.specs.Object.{axisAt, sharedBy, judgeObject}
@@ -18,7 +19,7 @@ use Rattle.objects.specs.declared.stage.Turn.the-variants as variant
 
 -- object i has so many AXIS_DESCR, and k is a COM_AXIS
 unfoldable pub names : View → ℕ → ℕ → Bool
-names v i k = ltb k (v .slots object i 26) && eqb (v .slots axis (axisAt v i k) 1) COM-AXIS
+names v i k = ltb k (v .slots object i axis-descr-seen) && eqb (v .slots axis (axisAt v i k) axis-attribute) COM-AXIS
 
 -- the AXIS_PTS that AXIS_DESCR k of object i names
 unfoldable pub named : List ℕ → View → ℕ → ℕ → List ℕ
@@ -44,7 +45,7 @@ marked seen i = cond (eqb (getD seen i 0) 0) (set seen i 1) seen
 
 module _ (image : List ℕ) (base : ℕ) (x : List ℕ) (v : View) where
   unfoldable pub turn : List ℕ → ℕ → ℕ → Answer ℕ
-  turn seen i used = cond (eqb (getD seen i 0) 0) (totalOr (v .slots object i 0) (judgeObject image base x v i used)) (given used)
+  turn seen i used = cond (eqb (getD seen i 0) 0) (totalOr (v .slots object i own-name) (judgeObject image base x v i used)) (given used)
 
   -- turn after turn; the first refusal stays
   unfoldable pub judgeEach : List ℕ → List ℕ → ℕ → Answer ℕ

@@ -8,6 +8,15 @@ use grammar::view::OBJECT;
 use grammar::view::slot_of;
 use place::order::Aligns;
 use place::walk::Ground;
+use rows::slots::COMMON_ALIGNMENT_BYTE;
+use rows::slots::COMMON_ALIGNMENT_LONG;
+use rows::slots::COMMON_ALIGNMENT_WORD;
+use rows::slots::COMMON_BYTE_ORDER;
+use rows::slots::LAYOUT_ALIGNMENT_BYTE;
+use rows::slots::LAYOUT_ALIGNMENT_LONG;
+use rows::slots::LAYOUT_ALIGNMENT_WORD;
+use rows::slots::OBJECT_ADDRESS;
+use rows::slots::OBJECT_BYTE_ORDER;
 use words::codes::MSB_FIRST;
 ghost use mathlib.Core.Path.{_≡_};
 ghost use Rattle.grammar.specs.Move.{viewIn};
@@ -35,9 +44,9 @@ fn word_of(t: &[u64], l: u16, k: u16, c: u16) -> u8
 fn aligns_of(t: &[u64], l: u16) -> Aligns
     ensures { λ r. ⌜ r ≡ alignsOf (viewIn (now (t .entry))) l ⌝ }
 {
-    let byte = word_of(t, l, 5, 6);
-    let word = word_of(t, l, 7, 8);
-    let long = word_of(t, l, 9, 10);
+    let byte = word_of(t, l, LAYOUT_ALIGNMENT_BYTE, COMMON_ALIGNMENT_BYTE);
+    let word = word_of(t, l, LAYOUT_ALIGNMENT_WORD, COMMON_ALIGNMENT_WORD);
+    let long = word_of(t, l, LAYOUT_ALIGNMENT_LONG, COMMON_ALIGNMENT_LONG);
     Aligns { byte, word, long }
 }
 
@@ -45,9 +54,9 @@ fn aligns_of(t: &[u64], l: u16) -> Aligns
 pub fn first_of(t: &[u64], i: u16) -> bool
     ensures { λ r. ⌜ r ≡ firstOf (viewIn (now (t .entry))) i ⌝ }
 {
-    let own = slot_of(t, OBJECT, i, 20);
+    let own = slot_of(t, OBJECT, i, OBJECT_BYTE_ORDER);
     if own == 0 {
-        let common = slot_of(t, FILE, 0, 4);
+        let common = slot_of(t, FILE, 0, COMMON_BYTE_ORDER);
         return common == (MSB_FIRST as u64);
     }
     own == (MSB_FIRST as u64)
@@ -57,7 +66,7 @@ pub fn first_of(t: &[u64], i: u16) -> bool
 pub fn ground_of(x: &[u8], t: &[u64], base: u32, i: u16) -> Ground
     ensures { λ r. ⌜ r ≡ groundOf (now (x .entry)) (viewIn (now (t .entry))) base i ⌝ }
 {
-    let at = slot_of(t, OBJECT, i, 5);
+    let at = slot_of(t, OBJECT, i, OBJECT_ADDRESS);
     let address = least32(at, ADDRESS);
     let first = first_of(t, i);
     let l = layout_number(x, t, i);

@@ -8,6 +8,20 @@ use grammar::view::OBJECT;
 use grammar::view::slot_of;
 use place::order::Entry;
 use place::order::Layout;
+use rows::slots::AXIS_PTS_X_POSITION;
+use rows::slots::AXIS_PTS_X_TYPE;
+use rows::slots::AXIS_PTS_Y_POSITION;
+use rows::slots::AXIS_PTS_Y_TYPE;
+use rows::slots::BLOCK_CODE;
+use rows::slots::FNC_VALUES_POSITION;
+use rows::slots::FNC_VALUES_TYPE;
+use rows::slots::NO_AXIS_PTS_X_POSITION;
+use rows::slots::NO_AXIS_PTS_X_TYPE;
+use rows::slots::NO_AXIS_PTS_Y_POSITION;
+use rows::slots::NO_AXIS_PTS_Y_TYPE;
+use rows::slots::OBJECT_LAYOUT;
+use rows::slots::OBJECT_LAYOUT_PAST;
+use rows::slots::OBJECT_TYPE;
 use words::codes::MEASUREMENT;
 ghost use mathlib.Core.Path.{_≡_};
 ghost use Rattle.grammar.specs.Move.{viewIn};
@@ -45,11 +59,11 @@ fn part_at(t: &[u64], l: u16, p: u16, k: u16) -> Entry
 pub fn layout_at(t: &[u64], l: u16) -> Layout
     ensures { λ r. ⌜ r ≡ layoutAt (viewIn (now (t .entry))) l ⌝ }
 {
-    let values = part_at(t, l, 11, 12);
-    let x = part_at(t, l, 16, 17);
-    let y = part_at(t, l, 21, 22);
-    let nx = part_at(t, l, 26, 27);
-    let ny = part_at(t, l, 29, 30);
+    let values = part_at(t, l, FNC_VALUES_POSITION, FNC_VALUES_TYPE);
+    let x = part_at(t, l, AXIS_PTS_X_POSITION, AXIS_PTS_X_TYPE);
+    let y = part_at(t, l, AXIS_PTS_Y_POSITION, AXIS_PTS_Y_TYPE);
+    let nx = part_at(t, l, NO_AXIS_PTS_X_POSITION, NO_AXIS_PTS_X_TYPE);
+    let ny = part_at(t, l, NO_AXIS_PTS_Y_POSITION, NO_AXIS_PTS_Y_TYPE);
     Layout {
         values,
         x,
@@ -94,8 +108,8 @@ fn measured(k: u64) -> Layout
 pub fn layout_number(x: &[u8], t: &[u64], i: u16) -> u16
     ensures { λ r. ⌜ r ≡ layoutNumber (now (x .entry)) (viewIn (now (t .entry))) i ⌝ }
 {
-    let a = slot_of(t, OBJECT, i, 6) as usize;
-    let e = slot_of(t, OBJECT, i, 7) as usize;
+    let a = slot_of(t, OBJECT, i, OBJECT_LAYOUT as u16) as usize;
+    let e = slot_of(t, OBJECT, i, OBJECT_LAYOUT_PAST) as usize;
     led(x, t, LAYOUT, a, e)
 }
 
@@ -103,8 +117,8 @@ pub fn layout_number(x: &[u8], t: &[u64], i: u16) -> u16
 pub fn layout_of(x: &[u8], t: &[u64], i: u16) -> Layout
     ensures { λ r. ⌜ r ≡ layoutOf (now (x .entry)) (viewIn (now (t .entry))) i ⌝ }
 {
-    if slot_of(t, OBJECT, i, 3) == (MEASUREMENT as u64) {
-        let kind = slot_of(t, OBJECT, i, 4);
+    if slot_of(t, OBJECT, i, BLOCK_CODE) == (MEASUREMENT as u64) {
+        let kind = slot_of(t, OBJECT, i, OBJECT_TYPE);
         return measured(kind);
     }
     let l = layout_number(x, t, i);

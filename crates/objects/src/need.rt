@@ -10,6 +10,15 @@ use judge::walk::place_parts;
 use place::rules::Axis;
 use place::rules::Need;
 use place::walk::Placed;
+use rows::slots::AXIS_ATTRIBUTE;
+use rows::slots::AXIS_MAX_POINTS;
+use rows::slots::AXIS_PTS_REF;
+use rows::slots::AXIS_PTS_REF_PAST;
+use rows::slots::BLOCK_CODE;
+use rows::slots::FIRST_HELD;
+use rows::slots::NUMBER_OF_VALUES;
+use rows::slots::OBJECT_MAX_POINTS;
+use rows::slots::OBJECT_TYPE;
 use words::codes::AXIS_PTS;
 use words::codes::CHARACTERISTIC;
 use words::codes::COM_AXIS;
@@ -64,7 +73,7 @@ fn value_need() -> Need
 fn axis_pts_need(t: &[u64], i: u16) -> Need
     ensures { λ r. ⌜ r ≡ axisPtsNeed (viewIn (now (t .entry))) i ⌝ }
 {
-    let points = slot_of(t, OBJECT, i, 12);
+    let points = slot_of(t, OBJECT, i, OBJECT_MAX_POINTS);
     let most = least16(points, POINTS);
     let x = own_axis(most);
     let y = no_axis();
@@ -79,7 +88,7 @@ fn axis_pts_need(t: &[u64], i: u16) -> Need
 pub fn axis_at(t: &[u64], i: u16, k: u8) -> u16
     ensures { λ r. ⌜ r ≡ axisAt (viewIn (now (t .entry))) i k ⌝ }
 {
-    let n = slot_of(t, OBJECT, i, 2);
+    let n = slot_of(t, OBJECT, i, FIRST_HELD);
     let first = least16(n, AXES);
     first + (k as u16)
 }
@@ -88,8 +97,8 @@ pub fn axis_at(t: &[u64], i: u16, k: u8) -> u16
 pub fn shared_by(x: &[u8], t: &[u64], a: u16) -> u16
     ensures { λ r. ⌜ r ≡ sharedBy (now (x .entry)) (viewIn (now (t .entry))) a ⌝ }
 {
-    let from = slot_of(t, AXIS, a, 14) as usize;
-    let to = slot_of(t, AXIS, a, 15) as usize;
+    let from = slot_of(t, AXIS, a, AXIS_PTS_REF as u16) as usize;
+    let to = slot_of(t, AXIS, a, AXIS_PTS_REF_PAST) as usize;
     led(x, t, OBJECT, from, to)
 }
 
@@ -113,9 +122,9 @@ fn shared_points(image: &[u8], base: u32, x: &[u8], t: &[u64], s: u16) -> u16
 fn axis_need(image: &[u8], base: u32, x: &[u8], t: &[u64], a: u16) -> Axis
     ensures { λ r. ⌜ r ≡ axisNeed (now (image .entry)) base (now (x .entry)) (viewIn (now (t .entry))) a ⌝ }
 {
-    let max = slot_of(t, AXIS, a, 6);
+    let max = slot_of(t, AXIS, a, AXIS_MAX_POINTS);
     let most = least16(max, POINTS);
-    if slot_of(t, AXIS, a, 1) == (COM_AXIS as u64) {
+    if slot_of(t, AXIS, a, AXIS_ATTRIBUTE) == (COM_AXIS as u64) {
         let s = shared_by(x, t, a);
         let points = shared_points(image, base, x, t, s);
         return Axis {
@@ -131,7 +140,7 @@ fn axis_need(image: &[u8], base: u32, x: &[u8], t: &[u64], a: u16) -> Axis
 fn block_need(t: &[u64], i: u16) -> Need
     ensures { λ r. ⌜ r ≡ blockNeed (viewIn (now (t .entry))) i ⌝ }
 {
-    let number = slot_of(t, OBJECT, i, 25);
+    let number = slot_of(t, OBJECT, i, NUMBER_OF_VALUES);
     let most = least16(number, NUMBERS);
     let y = no_axis();
     let x = Axis {
@@ -175,7 +184,7 @@ fn map_need(image: &[u8], base: u32, x: &[u8], t: &[u64], i: u16) -> Need
 fn characteristic_need(image: &[u8], base: u32, x: &[u8], t: &[u64], i: u16) -> Need
     ensures { λ r. ⌜ r ≡ characteristicNeed (now (image .entry)) base (now (x .entry)) (viewIn (now (t .entry))) i ⌝ }
 {
-    let kind = slot_of(t, OBJECT, i, 4);
+    let kind = slot_of(t, OBJECT, i, OBJECT_TYPE);
     if kind == (VAL_BLK as u64) {
         return block_need(t, i);
     }
@@ -192,7 +201,7 @@ fn characteristic_need(image: &[u8], base: u32, x: &[u8], t: &[u64], i: u16) -> 
 pub fn need_of(image: &[u8], base: u32, x: &[u8], t: &[u64], i: u16) -> Need
     ensures { λ r. ⌜ r ≡ needOf (now (image .entry)) base (now (x .entry)) (viewIn (now (t .entry))) i ⌝ }
 {
-    let class = slot_of(t, OBJECT, i, 3);
+    let class = slot_of(t, OBJECT, i, BLOCK_CODE);
     if class == (AXIS_PTS as u64) {
         return axis_pts_need(t, i);
     }

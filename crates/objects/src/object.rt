@@ -11,6 +11,8 @@ use place::judge::Judged;
 use place::walk::BREAKS_PLACE;
 use place::walk::Placed;
 use place::walk::Places;
+use rows::slots::BIT_MASK;
+use rows::slots::BIT_MASK_SEEN;
 ghost use mathlib.Core.Path.{_≡_};
 ghost use Rattle.grammar.specs.Move.{viewIn};
 ghost use Rattle.place.specs.Told.{toldJudged};
@@ -20,8 +22,8 @@ ghost use Rattle.objects.specs.Object.{maskFits, judgeObject, placesOf, 
 fn mask_fits(x: &[u8], t: &[u64], i: u16) -> bool
     ensures { λ r. ⌜ r ≡ maskFits (now (x .entry)) (viewIn (now (t .entry))) i ⌝ }
 {
-    let has = slot_of(t, OBJECT, i, 21);
-    let mask = slot_of(t, OBJECT, i, 22);
+    let has = slot_of(t, OBJECT, i, BIT_MASK_SEEN);
+    let mask = slot_of(t, OBJECT, i, BIT_MASK);
     let l = layout_of(x, t, i);
     let v = l.values;
     let keeps = keeps_mask_rule(v.kind, mask);

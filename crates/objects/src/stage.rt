@@ -7,12 +7,16 @@ use grammar::view::OBJECT;
 use grammar::view::count_of;
 use grammar::view::slot_of;
 use place::judge::Judged;
+use rows::slots::AXIS_ATTRIBUTE;
+use rows::slots::AXIS_DESCR_SEEN;
+use rows::slots::OWN_NAME;
 use words::codes::COM_AXIS;
 ghost use mathlib.Core.Path.{_≡_};
 ghost use mathlib.Core.List.{[], _∷_, _++_};
 ghost use lib.Dec.{eqb};
 ghost use lib.ListN.{getD, set};
 ghost use Rattle.rows.specs.Sections.{object};
+ghost use Rattle.rows.specs.Slots.{own-name};
 ghost use Rattle.grammar.specs.Move.{viewIn};
 ghost use Rattle.objects.specs.Object.{judgeObject};
 ghost use Rattle.objects.specs.Stage.{names, named, turnsOf, turnsFrom, marked, totalOr, turn, judgeEach, judgeAll, toldTurn, Goes};
@@ -46,12 +50,12 @@ fn mark(seen: &mut [u8], i: u16)
 
 // The judgement of object i with its place.
 fn weigh(image: &[u8], base: u32, x: &[u8], t: &[u64], i: u16, used: u32) -> Turn
-    ensures { λ r. ⌜ toldTurn r ≡ totalOr (viewIn (now (t .entry)) .slots object i 0) (judgeObject (now (image .entry)) base (now (x .entry)) (viewIn (now (t .entry))) i used) ⌝ }
+    ensures { λ r. ⌜ toldTurn r ≡ totalOr (viewIn (now (t .entry)) .slots object i own-name) (judgeObject (now (image .entry)) base (now (x .entry)) (viewIn (now (t .entry))) i used) ⌝ }
 {
     match judge_one(image, base, x, t, i, used) {
         Judged::Stands(s) => Turn::Total(s.total as u32),
         Judged::Refused { no } => {
-            let place = slot_of(t, OBJECT, i, 0) as usize;
+            let place = slot_of(t, OBJECT, i, OWN_NAME) as usize;
             Turn::Refused { no, place }
         }
     }
@@ -80,9 +84,9 @@ fn take_turn(
 fn is_naming(t: &[u64], i: u16, k: u8) -> bool
     ensures { λ r. ⌜ r ≡ names (viewIn (now (t .entry))) i k ⌝ }
 {
-    let many = slot_of(t, OBJECT, i, 26);
+    let many = slot_of(t, OBJECT, i, AXIS_DESCR_SEEN);
     let a = axis_at(t, i, k);
-    let kind = slot_of(t, AXIS, a, 1);
+    let kind = slot_of(t, AXIS, a, AXIS_ATTRIBUTE);
     ((k as u64) < many) & (kind == (COM_AXIS as u64))
 }
 

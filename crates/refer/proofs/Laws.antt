@@ -11,6 +11,9 @@ use lib.ListN.{length}
 use Rattle.text.specs.Answer.{Answer, given, refused}
 use Rattle.text.specs.Bytes.{samePart, spelt}
 use Rattle.text.proofs.ByteLaws.{via}
+use Rattle.rows.specs.Codes.{AXIS-PTS, MEASUREMENT}
+use Rattle.rows.specs.Sections.{method, table, layout, object, axis}
+use Rattle.rows.specs.Slots.{block-code, compu-tab-ref, object-layout, object-conversion, object-input-quantity, axis-input-quantity, axis-conversion, axis-pts-ref}
 use Rattle.grammar.specs.Move.{View, viewIn}
 use Rattle.grammar.specs.Parameter.{find, foundAt}
 use Rattle.grammar.specs.declared.names.Found.{Found}
@@ -41,7 +44,7 @@ module _ (x : List ℕ) (v : View) (r : Row) (a e : ℕ) where
     refer-none y = rw (leads-is found.Nothing y)
 
     -- s is the class of the record that was found
-    module _ (i : ℕ) (y : f ≡ found.At i) (s : ℕ) (ps : s ≡ v .slots (r .target) i 3) where
+    module _ (i : ℕ) (y : f ≡ found.At i) (s : ℕ) (ps : s ≡ v .slots (r .target) i block-code) where
       pub refer-right : (eqb (r .class) 0 || eqb s (r .class)) ≡ true → given tt ≡ judgedReference x v r a e
       refer-right t = rw (leads-is (found.At i) y, ← ps, t)
 
@@ -149,27 +152,27 @@ module _ (x t : List ℕ) where
     alone (given u) = rw (le-ltb (length x) (length x) (omega arith))
     alone (refused n p) = rw (le-ltb (length x) (length x) (omega arith))
 
-  pub inner-is : (g f e d : Reference) (r₁ r₂ r₃ r₄ : Row) → r₁ ≡ row 1 26 2 0 0 → toldReference g ≡ stopped x (leastOf x v r₁) → r₂ ≡ row 6 14 5 7 0 → toldReference f ≡ sooner (stopped x (leastOf x v r₂)) (toldReference g)
-      → r₃ ≡ row 6 4 1 0 1 → toldReference e ≡ sooner (stopped x (leastOf x v r₃)) (toldReference f) → r₄ ≡ row 6 2 5 10 2 → toldReference d ≡ sooner (stopped x (leastOf x v r₄)) (toldReference e)
+  pub inner-is : (g f e d : Reference) (r₁ r₂ r₃ r₄ : Row) → r₁ ≡ row method compu-tab-ref table 0 0 → toldReference g ≡ stopped x (leastOf x v r₁) → r₂ ≡ row axis axis-pts-ref object AXIS-PTS 0 → toldReference f ≡ sooner (stopped x (leastOf x v r₂)) (toldReference g)
+      → r₃ ≡ row axis axis-conversion method 0 1 → toldReference e ≡ sooner (stopped x (leastOf x v r₃)) (toldReference f) → r₄ ≡ row axis axis-input-quantity object MEASUREMENT 2 → toldReference d ≡ sooner (stopped x (leastOf x v r₄)) (toldReference e)
       → toldReference d ≡ stopped x (leastIn x v innerRows)
   unfolding innerRows
   inner-is g f e d r₁ r₂ r₃ r₄ p₁ q₁ p₂ q₂ p₃ q₃ p₄ q₄ =
-      row-on (row 6 2 5 10 2) _ d e
-      (row-on (row 6 4 1 0 1) _ e f
-      (row-on (row 6 14 5 7 0) _ f g
-      (row-last (row 1 26 2 0 0) g (rw p₁ at q₁))
+      row-on (row axis axis-input-quantity object MEASUREMENT 2) _ d e
+      (row-on (row axis axis-conversion method 0 1) _ e f
+      (row-on (row axis axis-pts-ref object AXIS-PTS 0) _ f g
+      (row-last (row method compu-tab-ref table 0 0) g (rw p₁ at q₁))
       (rw p₂ at q₂))
       (rw p₃ at q₃))
       (rw p₄ at q₄)
 
-  pub rows-is : (d c b a : Reference) (r₁ r₂ r₃ : Row) → toldReference d ≡ stopped x (leastIn x v innerRows) → r₁ ≡ row 5 10 5 10 2 → toldReference c ≡ sooner (stopped x (leastOf x v r₁)) (toldReference d)
-      → r₂ ≡ row 5 8 1 0 1 → toldReference b ≡ sooner (stopped x (leastOf x v r₂)) (toldReference c) → r₃ ≡ row 5 6 4 0 0 → toldReference a ≡ sooner (stopped x (leastOf x v r₃)) (toldReference b)
+  pub rows-is : (d c b a : Reference) (r₁ r₂ r₃ : Row) → toldReference d ≡ stopped x (leastIn x v innerRows) → r₁ ≡ row object object-input-quantity object MEASUREMENT 2 → toldReference c ≡ sooner (stopped x (leastOf x v r₁)) (toldReference d)
+      → r₂ ≡ row object object-conversion method 0 1 → toldReference b ≡ sooner (stopped x (leastOf x v r₂)) (toldReference c) → r₃ ≡ row object object-layout layout 0 0 → toldReference a ≡ sooner (stopped x (leastOf x v r₃)) (toldReference b)
       → toldReference a ≡ referred x v
   unfolding referred referenceRows
   rows-is d c b a r₁ r₂ r₃ p₀ p₁ q₁ p₂ q₂ p₃ q₃ =
-      row-on (row 5 6 4 0 0) _ a b
-      (row-on (row 5 8 1 0 1) _ b c
-      (row-on (row 5 10 5 10 2) _ c d p₀
+      row-on (row object object-layout layout 0 0) _ a b
+      (row-on (row object object-conversion method 0 1) _ b c
+      (row-on (row object object-input-quantity object MEASUREMENT 2) _ c d p₀
       (rw p₁ at q₁))
       (rw p₂ at q₂))
       (rw p₃ at q₃)

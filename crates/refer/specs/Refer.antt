@@ -8,6 +8,7 @@ use Rattle.text.specs.Answer.{Answer, given, refused}
 use Rattle.text.specs.Bytes.{spells}
 use Rattle.rows.specs.Codes.{AXIS-PTS, MEASUREMENT}
 use Rattle.rows.specs.Sections.{method, table, layout, object, axis}
+use Rattle.rows.specs.Slots.{block-code, compu-tab-ref, object-layout, object-conversion, object-input-quantity, axis-input-quantity, axis-conversion, axis-pts-ref}
 use Rattle.grammar.specs.Move.{View}
 use Rattle.grammar.specs.Parameter.{find}
 use Rattle.refer.specs.declared.Row.{Row}
@@ -22,17 +23,17 @@ row j k t c f = record { sec = j; slot = k; target = t; class = c; free = f }
 -- "An input quantity is a MEASUREMENT or NO_INPUT_QUANTITY"; layouts, conversions, verbal tables; "COM_AXIS with AXIS_PTS_REF"
 unfoldable pub innerRows : List Row
 innerRows =
-    row axis 2 object MEASUREMENT 2
-    ∷ row axis 4 method 0 1
-    ∷ row axis 14 object AXIS-PTS 0
-    ∷ row method 26 table 0 0
+    row axis axis-input-quantity object MEASUREMENT 2
+    ∷ row axis axis-conversion method 0 1
+    ∷ row axis axis-pts-ref object AXIS-PTS 0
+    ∷ row method compu-tab-ref table 0 0
     ∷ []
 
 unfoldable pub referenceRows : List Row
 referenceRows =
-    row object 6 layout 0 0
-    ∷ row object 8 method 0 1
-    ∷ row object 10 object MEASUREMENT 2
+    row object object-layout layout 0 0
+    ∷ row object object-conversion method 0 1
+    ∷ row object object-input-quantity object MEASUREMENT 2
     ∷ innerRows
 
 -- the bytes from a up to e are the word that stands for none
@@ -42,7 +43,7 @@ isFree x f a e = eqb f 1 && spells x a e "NO_COMPU_METHOD" || eqb f 2 && spells 
 -- the record that was found, its number plus one, is of the class
 abbrev pub isOf : View → ℕ → ℕ → ℕ → Bool
 isOf v j c zero = false
-isOf v j c (suc i) = eqb c 0 || eqb (v .slots j i 3) c
+isOf v j c (suc i) = eqb c 0 || eqb (v .slots j i block-code) c
 
 -- the name from a up to e leads somewhere
 unfoldable pub leads : List ℕ → View → Row → ℕ → ℕ → Bool

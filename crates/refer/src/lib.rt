@@ -8,6 +8,14 @@ use grammar::view::OBJECT;
 use grammar::view::TABLE;
 use grammar::view::count_of;
 use grammar::view::slot_of;
+use rows::slots::AXIS_CONVERSION;
+use rows::slots::AXIS_INPUT_QUANTITY;
+use rows::slots::AXIS_PTS_REF;
+use rows::slots::BLOCK_CODE;
+use rows::slots::COMPU_TAB_REF;
+use rows::slots::OBJECT_CONVERSION;
+use rows::slots::OBJECT_INPUT_QUANTITY;
+use rows::slots::OBJECT_LAYOUT;
 use text::bytes::same_part;
 ghost use mathlib.Core.Path.{_≡_};
 ghost use Rattle.grammar.specs.Move.{viewIn};
@@ -60,7 +68,7 @@ fn refer(x: &[u8], t: &[u64], r: Row, a: usize, e: usize) -> Reference
     let Found::At(i) = find(x, t, r.target, a, e) else {
         return Reference::Refused { no: 7, place: a };
     };
-    if (r.class == 0) | (slot_of(t, r.target, i, 3) == (r.class as u64)) {
+    if (r.class == 0) | (slot_of(t, r.target, i, BLOCK_CODE) == (r.class as u64)) {
         return Reference::Fine;
     }
     Reference::Refused { no: 7, place: a }
@@ -120,10 +128,10 @@ fn first_with(x: &[u8], t: &[u64], r: Row, rest: Reference) -> Reference
 fn first_inside(x: &[u8], t: &[u64]) -> Reference
     ensures { λ q. ⌜ toldReference q ≡ stopped (now (x .entry)) (leastIn (now (x .entry)) (viewIn (now (t .entry))) innerRows) ⌝ }
 {
-    let g = first_of(x, t, row_of(METHOD, 26, TABLE, 0, 0));
-    let f = first_with(x, t, row_of(AXIS, 14, OBJECT, 7, 0), g);
-    let e = first_with(x, t, row_of(AXIS, 4, METHOD, 0, 1), f);
-    first_with(x, t, row_of(AXIS, 2, OBJECT, 10, 2), e)
+    let g = first_of(x, t, row_of(METHOD, COMPU_TAB_REF, TABLE, 0, 0));
+    let f = first_with(x, t, row_of(AXIS, AXIS_PTS_REF, OBJECT, 7, 0), g);
+    let e = first_with(x, t, row_of(AXIS, AXIS_CONVERSION, METHOD, 0, 1), f);
+    first_with(x, t, row_of(AXIS, AXIS_INPUT_QUANTITY, OBJECT, 10, 2), e)
 }
 
 // Judges every reference of the records: the first by place that leads nowhere stops the load.
@@ -131,7 +139,12 @@ pub fn refer_all(x: &[u8], t: &[u64]) -> Reference
     ensures { λ q. ⌜ toldReference q ≡ referred (now (x .entry)) (viewIn (now (t .entry))) ⌝ }
 {
     let d = first_inside(x, t);
-    let c = first_with(x, t, row_of(OBJECT, 10, OBJECT, 10, 2), d);
-    let b = first_with(x, t, row_of(OBJECT, 8, METHOD, 0, 1), c);
-    first_with(x, t, row_of(OBJECT, 6, LAYOUT, 0, 0), b)
+    let c = first_with(
+        x,
+        t,
+        row_of(OBJECT, OBJECT_INPUT_QUANTITY, OBJECT, 10, 2),
+        d,
+    );
+    let b = first_with(x, t, row_of(OBJECT, OBJECT_CONVERSION, METHOD, 0, 1), c);
+    first_with(x, t, row_of(OBJECT, OBJECT_LAYOUT, LAYOUT, 0, 0), b)
 }

@@ -1,6 +1,7 @@
--- The grammar as data: sections, codes, rows.
+-- The grammar as data: sections, slots, codes, rows.
 pub mod Codes
 pub mod Sections
+pub mod Slots
 pub mod Kinds
 pub mod Row
 pub mod Rows

@@ -3,8 +3,9 @@ use Prim.Native.Nat.{ℕ}
 use mathlib.Core.List.{List, []}
 use Rattle.rows.specs.Kinds.{nameKind, stringKind, wholeKind, decimalKind, choiceKind, newKind, pointsKind, alignmentKind, noughtKind, upperKind, pairsKind, numberKind, textKind}
 use Rattle.rows.specs.Sections.{file, none}
+use Rattle.rows.specs.Slots.{unkept}
 
--- a parameter: its kind, the slot that it goes to (0: it is not kept), the least and the greatest number or choice
+-- a parameter: its kind, the slot that it goes to (unkept: none), the least and the greatest number or choice
 pub record Param : Type 0 where
   pub kind : ℕ
   pub slot : ℕ
@@ -49,7 +50,7 @@ alignment s = param alignmentKind s 1 65535
 
 -- a coefficient that must be 0
 abbrev pub nought : Param
-nought = param noughtKind 0 0 0
+nought = param noughtKind unkept 0 0
 
 -- an upper limit, in three slots; the lower limit's three stand before it
 abbrev pub upper : ℕ → Param
@@ -61,7 +62,7 @@ pairs s = param pairsKind s 0 65535
 
 -- the number of a pair, which makes a new entry
 abbrev pub number : Param
-number = param numberKind 0 0 0
+number = param numberKind unkept 0 0
 
 -- the text of a pair
 abbrev pub text : ℕ → Param

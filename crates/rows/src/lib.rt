@@ -2,6 +2,7 @@
 // Each table is a match and no array: an array that is indexed would be copied by every call.
 pub mod cells;
 pub mod kinds;
+pub mod slots;
 
 ghost use mathlib.Core.Path.{_≡_};
 ghost use mathlib.Core.Bool.{_&&_};

@@ -14,6 +14,7 @@ use Rattle.number.specs.Decimal.{Scaled}
 use Rattle.records.specs.Records.{count, slot, add}
 use Rattle.rows.specs.Codes.{CURVE, MAP}
 use Rattle.rows.specs.Sections.{sections, none, table, entry, axis, object}
+use Rattle.rows.specs.Slots.{own-name, own-name-past, entry-sign, entry-size}
 use Rattle.rows.specs.Row.{Row, Need}
 use Rattle.rows.specs.Rows.{needed}
 use Rattle.rows.specs.Numbered.{needAt}
@@ -166,7 +167,7 @@ met-all d b h = met-needs d b needed 0 all-needs h
 module _ (x : List ℕ) (d : Records) (j a e : ℕ) where
   -- record i has the name
   abbrev bears : ℕ → Bool
-  bears i = samePart x (slot d j i 0) (slot d j i 1) x a e
+  bears i = samePart x (slot d j i own-name) (slot d j i own-name-past) x a e
 
   find-none : (f i : ℕ) → ((n : ℕ) → i ≤ n → n < i + f → bears n ≡ false) → findFrom f x (view d) j i a e ≡ 0
   unfolding findFrom
@@ -194,7 +195,7 @@ module _ (x : List ℕ) (d : Records) (j a e : ℕ) where
 module _ (d : Records) (s w : ℕ) where
   -- entry i has the number
   abbrev has : ℕ → Bool
-  has i = eqb (slot d entry i 0) s && eqb (slot d entry i 1) w
+  has i = eqb (slot d entry i entry-sign) s && eqb (slot d entry i entry-size) w
 
   entry-none : (f i : ℕ) → ((n : ℕ) → i ≤ n → n < i + f → has n ≡ false) → hasEntry f (view d) i s w ≡ false
   unfolding hasEntry
@@ -216,14 +217,14 @@ module _ (d : Records) (s w : ℕ) where
 module _ (d : Records) (m : Scaled) where
   pub apart-once : Apart d m → twice (view d) (signOf m) (m .whole) ≡ false
   apart-once h = entry-none d (signOf m) (m .whole) (count d entry - current d table 2) (current d table 2) (λ n l o. other n (h n l (omega arith))) where
-    other : (n : ℕ) → (slot d entry n 0 ≡ signOf m → slot d entry n 1 ≡ m .whole → ⊥) → has d (signOf m) (m .whole) n ≡ false
-    other n g = by-sign (eqb (slot d entry n 0) (signOf m)) (eqb (slot d entry n 1) (m .whole)) refl refl where
-      by-sign : (t u : Bool) → eqb (slot d entry n 0) (signOf m) ≡ t → eqb (slot d entry n 1) (m .whole) ≡ u → (t && u) ≡ false
+    other : (n : ℕ) → (slot d entry n entry-sign ≡ signOf m → slot d entry n entry-size ≡ m .whole → ⊥) → has d (signOf m) (m .whole) n ≡ false
+    other n g = by-sign (eqb (slot d entry n entry-sign) (signOf m)) (eqb (slot d entry n entry-size) (m .whole)) refl refl where
+      by-sign : (t u : Bool) → eqb (slot d entry n entry-sign) (signOf m) ≡ t → eqb (slot d entry n entry-size) (m .whole) ≡ u → (t && u) ≡ false
       by-sign false u y z = refl
       by-sign true false y z = refl
-      by-sign true true y z = absurd (g (eqb-true (slot d entry n 0) (signOf m) y) (eqb-true (slot d entry n 1) (m .whole) z))
+      by-sign true true y z = absurd (g (eqb-true (slot d entry n entry-sign) (signOf m) y) (eqb-true (slot d entry n entry-size) (m .whole) z))
 
   pub once-apart : twice (view d) (signOf m) (m .whole) ≡ false → Apart d m
   once-apart h n l o y z =
       false≢true (sym (none-entry d (signOf m) (m .whole) (count d entry - current d table 2) (current d table 2) h n l (omega arith))
-      ∙ rw (eq-eqb (slot d entry n 0) (signOf m) y, eq-eqb (slot d entry n 1) (m .whole) z))
+      ∙ rw (eq-eqb (slot d entry n entry-sign) (signOf m) y, eq-eqb (slot d entry n entry-size) (m .whole) z))

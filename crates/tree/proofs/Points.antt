@@ -19,6 +19,7 @@ use Rattle.records.specs.Records.{widthOf, mostOf, recordsOf, count, slot, add,
 use Rattle.records.proofs.Encode.{Good, good-add, none-good, fit-few}
 use Rattle.rows.specs.Codes.{FILE, ANY, PROJECT, AXIS-PTS, CHARACTERISTIC, AXIS-DESCR, VAL-BLK, CURVE, MAP, COM-AXIS}
 use Rattle.rows.specs.Sections.{sections, file, none, object, axis}
+use Rattle.rows.specs.Slots.{first-held, block-code, object-type, object-max-points, number-seen, number-of-values, axis-descr-seen, axis-attribute, axis-max-points, axis-pts-ref-seen, axis-pts-ref-past}
 use Rattle.rows.specs.Row.{Param, whole, opening, Row, need}
 use Rattle.rows.specs.Rows.{rows, needed, keeps}
 use Rattle.grammar.specs.Move.{puts, applied}
@@ -45,21 +46,21 @@ use Rattle.tree.proofs.Leaves.{untouched, leastOf, arePlain, holds, res
 
 record Sound (d : Records) : Type 0 where
   good : Good sections d
-  points : (i : ℕ) → slot d object i 3 ≡ AXIS-PTS → 1 ≤ slot d object i 12
-  numbers : (i : ℕ) → 1 ≤ slot d object i 24 → 1 ≤ slot d object i 25
-  axisPoints : (a : ℕ) → a < count d axis → 1 ≤ slot d axis a 6
-  references : (a : ℕ) → 1 ≤ slot d axis a 13 → 1 ≤ slot d axis a 15
+  points : (i : ℕ) → slot d object i block-code ≡ AXIS-PTS → 1 ≤ slot d object i object-max-points
+  numbers : (i : ℕ) → 1 ≤ slot d object i number-seen → 1 ≤ slot d object i number-of-values
+  axisPoints : (a : ℕ) → a < count d axis → 1 ≤ slot d axis a axis-max-points
+  references : (a : ℕ) → 1 ≤ slot d axis a axis-pts-ref-seen → 1 ≤ slot d axis a axis-pts-ref-past
   -- an object's axes are among those that were read; each object has at most two
-  spans : (i : ℕ) → slot d object i 2 + slot d object i 26 ≤ count d axis
-  few : (i : ℕ) → slot d object i 26 ≤ 2
-  room : count d axis ≤ 2 * (count d object - 1) + slot d object (count d object - 1) 26
+  spans : (i : ℕ) → slot d object i first-held + slot d object i axis-descr-seen ≤ count d axis
+  few : (i : ℕ) → slot d object i axis-descr-seen ≤ 2
+  room : count d axis ≤ 2 * (count d object - 1) + slot d object (count d object - 1) axis-descr-seen
 
 -- what an object and an axis need by the end of their blocks
 abbrev Whole : Records → ℕ → Type 0
-Whole d i = slot d object i 3 ≡ CHARACTERISTIC → (slot d object i 4 ≡ VAL-BLK → 1 ≤ slot d object i 24) × (axesOf (slot d object i 4) ≤ slot d object i 26)
+Whole d i = slot d object i block-code ≡ CHARACTERISTIC → (slot d object i object-type ≡ VAL-BLK → 1 ≤ slot d object i number-seen) × (axesOf (slot d object i object-type) ≤ slot d object i axis-descr-seen)
 
 abbrev Referred : Records → ℕ → Type 0
-Referred d a = slot d axis a 1 ≡ COM-AXIS → 1 ≤ slot d axis a 13
+Referred d a = slot d axis a axis-attribute ≡ COM-AXIS → 1 ≤ slot d axis a axis-pts-ref-seen
 
 -- the last ones may still lack something in the block b
 record Needs (b : ℕ) (d : Records) : Type 0 where
@@ -77,11 +78,11 @@ by-last d j P i f h = turn (eqb (suc i) (count d j)) refl where
 past-slot : (d : Records) (j i k : ℕ) → count d j ≤ i → slot d j i k ≡ 0
 past-slot d j i k h = ap (λ (r : List ℕ). getD r k 0) (List·getD-eq-default (recordsOf d j) [] h)
 
-whole-same : (d d′ : Records) (i : ℕ) → slot d′ object i 3 ≡ slot d object i 3 → slot d′ object i 4 ≡ slot d object i 4 → slot d′ object i 24 ≡ slot d object i 24 → slot d′ object i 26 ≡ slot d object i 26
+whole-same : (d d′ : Records) (i : ℕ) → slot d′ object i block-code ≡ slot d object i block-code → slot d′ object i object-type ≡ slot d object i object-type → slot d′ object i number-seen ≡ slot d object i number-seen → slot d′ object i axis-descr-seen ≡ slot d object i axis-descr-seen
     → Whole d i → Whole d′ i
 whole-same d d′ i p q r s h = rw (p, q, r, s) h
 
-referred-same : (d d′ : Records) (a : ℕ) → slot d′ axis a 1 ≡ slot d axis a 1 → slot d′ axis a 13 ≡ slot d axis a 13 → Referred d a → Referred d′ a
+referred-same : (d d′ : Records) (a : ℕ) → slot d′ axis a axis-attribute ≡ slot d axis a axis-attribute → slot d′ axis a axis-pts-ref-seen ≡ slot d axis a axis-pts-ref-seen → Referred d a → Referred d′ a
 referred-same d d′ a p q h = rw (p, q) h
 
 -- ---- nothing of objects and axes changes
@@ -272,11 +273,11 @@ module _ (b : ℕ) (qs : List Param) (d d′ : Records) (n : Named b object qs d
     fresh-zero : (k : ℕ) → 4 ≤ k → slot fresh object i k ≡ 0
     fresh-zero k h = clear-slot begun d object i k (λ p. inr (omega arith)) ∙ past-slot d object i k (omega (arith, one-more))
 
-    new-span : untouched (rest qs) 2 ≡ true → slot d′ object i 2 ≡ count d axis
+    new-span : untouched (rest qs) 2 ≡ true → slot d′ object i first-held ≡ count d axis
     unfolding sections
     new-span t = n .left .same object i 2 (λ p q. t) ∙ written-slot begun d i 2 g last-fresh (omega arith) (omega arith) ∙ ap (count d) c
 
-    new-block : untouched (rest qs) 3 ≡ true → slot d′ object i 3 ≡ b
+    new-block : untouched (rest qs) 3 ≡ true → slot d′ object i block-code ≡ b
     unfolding sections
     new-block t = n .left .same object i 3 (λ p q. t) ∙ written-slot begun d i 3 g last-fresh (omega arith) (omega arith)
 
@@ -291,24 +292,24 @@ module _ (b : ℕ) (qs : List Param) (d d′ : Records) (n : Named b object qs d
     unfolding sections
     named-sound t s = record {
       good = n .left .good (good-applied 0 begun d g);
-      points = λ i. by-last d′ object (λ (m : ℕ). slot d′ object m 3 ≡ AXIS-PTS → 1 ≤ slot d′ object m 12) i (λ e q. new-least i e 12 (omega arith) (asked (sym (new-block i e t₃) ∙ q)))
+      points = λ i. by-last d′ object (λ (m : ℕ). slot d′ object m block-code ≡ AXIS-PTS → 1 ≤ slot d′ object m object-max-points) i (λ e q. new-least i e 12 (omega arith) (asked (sym (new-block i e t₃) ∙ q)))
           (λ e. rw (before-as i 3 e, before-as i 12 e) (s .points i));
-      numbers = λ i. by-last d′ object (λ (m : ℕ). 1 ≤ slot d′ object m 24 → 1 ≤ slot d′ object m 25) i (λ e q. absurd (omega (arith, new-zero i e 24 (omega arith) t₂₄)))
+      numbers = λ i. by-last d′ object (λ (m : ℕ). 1 ≤ slot d′ object m number-seen → 1 ≤ slot d′ object m number-of-values) i (λ e q. absurd (omega (arith, new-zero i e 24 (omega arith) t₂₄)))
           (λ e. rw (before-as i 24 e, before-as i 25 e) (s .numbers i));
       axisPoints = λ a. rw (axes-as, axis-slots-as a 6) (s .axisPoints a);
       references = λ a. rw (axis-slots-as a 13, axis-slots-as a 15) (s .references a);
-      spans = λ i. by-last d′ object (λ (m : ℕ). slot d′ object m 2 + slot d′ object m 26 ≤ count d′ axis) i (λ e. omega (arith, new-span i e t₂, new-zero i e 26 (omega arith) t₂₆, axes-as))
+      spans = λ i. by-last d′ object (λ (m : ℕ). slot d′ object m first-held + slot d′ object m axis-descr-seen ≤ count d′ axis) i (λ e. omega (arith, new-span i e t₂, new-zero i e 26 (omega arith) t₂₆, axes-as))
           (λ e. rw (before-as i 2 e, before-as i 26 e, axes-as) (s .spans i));
-      few = λ i. by-last d′ object (λ (m : ℕ). slot d′ object m 26 ≤ 2) i (λ e. omega (arith, new-zero i e 26 (omega arith) t₂₆)) (λ e. rw (before-as i 26 e) (s .few i));
+      few = λ i. by-last d′ object (λ (m : ℕ). slot d′ object m axis-descr-seen ≤ 2) i (λ e. omega (arith, new-zero i e 26 (omega arith) t₂₆)) (λ e. rw (before-as i 26 e) (s .few i));
       room = spare (count d object) refl;
     } where
       asked : b ≡ AXIS-PTS → leb 1 (leastOf (rest qs) 12 0) ≡ true
       asked e = rw (eq-eqb b AXIS-PTS e) at t
 
       -- each object before it has at most two axes
-      spare : (m : ℕ) → count d object ≡ m → count d′ axis ≤ 2 * (count d′ object - 1) + slot d′ object (count d′ object - 1) 26
+      spare : (m : ℕ) → count d object ≡ m → count d′ axis ≤ 2 * (count d′ object - 1) + slot d′ object (count d′ object - 1) axis-descr-seen
       spare zero e =
-          let z : slot d object (count d object - 1) 26 ≡ 0 = past-slot d object (count d object - 1) 26 (omega arith) in
+          let z : slot d object (count d object - 1) axis-descr-seen ≡ 0 = past-slot d object (count d object - 1) axis-descr-seen (omega arith) in
           omega (arith, axes-as, s .room)
       spare (suc m) e = omega (arith, axes-as, one-more, s .room, s .few (count d object - 1))
 
@@ -352,7 +353,7 @@ module _ (qs : List Param) (d d₁ d′ : Records) (s : Sound d) (l : Left qs ax
       turn : (m : ℕ) → count d object ≡ m → 1 ≤ m
       turn (suc m) e = omega arith
       turn zero e =
-          let z : current d object 4 ≡ 0 = past-slot d object (count d object - 1) 4 (omega arith) in
+          let z : current d object 4 ≡ 0 = past-slot d object (count d object - 1) object-type (omega arith) in
           absurd (omega (arith, axes-none, ap axesOf z))
 
     spare : count d axis < mostOf sections axis
@@ -377,12 +378,12 @@ module _ (qs : List Param) (d d₁ d′ : Records) (s : Sound d) (l : Left qs ax
     slots-as : (i k : ℕ) → (k < 26) ⊎ (27 ≤ k) → slot d′ object i k ≡ slot d object i k
     slots-as i k h = object-from i k ∙ clear-slot adding d object i k (λ p. h)
 
-    seen-more : (i : ℕ) → suc i ≡ count d′ object → slot d′ object i 26 ≡ seen + 1
+    seen-more : (i : ℕ) → suc i ≡ count d′ object → slot d′ object i axis-descr-seen ≡ seen + 1
     unfolding sections
     seen-more i e = object-from i 26 ∙ written-slot adding d i 0 (s .good) (e ∙ objects-as ∙ sym (same-count adding d object (λ z. absurd (omega arith)))) (omega arith) (omega arith)
 
-    seen-is : (i : ℕ) → suc i ≡ count d′ object → slot d object i 26 ≡ seen
-    seen-is i e = ap (λ (m : ℕ). slot d object m 26) (let z : i ≡ count d object - 1 = omega (arith, objects-as) in z)
+    seen-is : (i : ℕ) → suc i ≡ count d′ object → slot d object i axis-descr-seen ≡ seen
+    seen-is i e = ap (λ (m : ℕ). slot d object m axis-descr-seen) (let z : i ≡ count d object - 1 = omega (arith, objects-as) in z)
 
     -- the axes before it, and the new one
     before-axes : (a k : ℕ) → (suc a ≡ count d′ axis → ⊥) → slot d′ axis a k ≡ slot d axis a k
@@ -397,16 +398,16 @@ module _ (qs : List Param) (d d₁ d′ : Records) (s : Sound d) (l : Left qs ax
       good = l .good (rw is (good-applied 0 adding d (s .good)));
       points = λ i. rw (slots-as i 3 (inl (omega arith)), slots-as i 12 (inl (omega arith))) (s .points i);
       numbers = λ i. rw (slots-as i 24 (inl (omega arith)), slots-as i 25 (inl (omega arith))) (s .numbers i);
-      axisPoints = λ a. by-last d′ axis (λ (m : ℕ). m < count d′ axis → 1 ≤ slot d′ axis m 6) a (λ e h. filled a e) (λ e h. rw (before-axes a 6 e) (s .axisPoints a (omega (arith, axes-more, e))));
-      references = λ a. by-last d′ axis (λ (m : ℕ). 1 ≤ slot d′ axis m 13 → 1 ≤ slot d′ axis m 15) a
+      axisPoints = λ a. by-last d′ axis (λ (m : ℕ). m < count d′ axis → 1 ≤ slot d′ axis m axis-max-points) a (λ e h. filled a e) (λ e h. rw (before-axes a 6 e) (s .axisPoints a (omega (arith, axes-more, e))));
+      references = λ a. by-last d′ axis (λ (m : ℕ). 1 ≤ slot d′ axis m axis-pts-ref-seen → 1 ≤ slot d′ axis m axis-pts-ref-past) a
           (λ e h. absurd (omega (arith, l .same axis a 13 (λ p q. t₁₃), new-axis a 13 e))) (λ e. rw (before-axes a 13 e, before-axes a 15 e) (s .references a));
-      spans = λ i. by-last d′ object (λ (m : ℕ). slot d′ object m 2 + slot d′ object m 26 ≤ count d′ axis) i
+      spans = λ i. by-last d′ object (λ (m : ℕ). slot d′ object m first-held + slot d′ object m axis-descr-seen ≤ count d′ axis) i
           (λ e. omega (arith, slots-as i 2 (inl (omega arith)), seen-more i e, seen-is i e, axes-more, s .spans i))
           (λ e. omega (arith, others-as i 2 e, others-as i 26 e, axes-more, s .spans i));
-      few = λ i. by-last d′ object (λ (m : ℕ). slot d′ object m 26 ≤ 2) i (λ e. omega (arith, seen-more i e, axes-most (current d object 4))) (λ e. rw (others-as i 26 e) (s .few i));
+      few = λ i. by-last d′ object (λ (m : ℕ). slot d′ object m axis-descr-seen ≤ 2) i (λ e. omega (arith, seen-more i e, axes-most (current d object 4))) (λ e. rw (others-as i 26 e) (s .few i));
       room = omega (arith, axes-more, objects-as, s .room, some, seen-more (count d′ object - 1) (omega (arith, objects-as, some)));
     } where
-      filled : (a : ℕ) → suc a ≡ count d′ axis → 1 ≤ slot d′ axis a 6
+      filled : (a : ℕ) → suc a ≡ count d′ axis → 1 ≤ slot d′ axis a axis-max-points
       filled a e =
           omega (arith, leb-true 1 (leastOf qs 6 0) t₆, l .least (rw is (good-applied 0 adding d (s .good))) a 6 0 (e ∙ l .counts axis) (omega arith) (omega arith))
 
@@ -522,16 +523,16 @@ module _ (d : Records) where
   unfolding needed
   whole-met m i e c = (
     λ v. rw (at 24) (m (need CHARACTERISTIC object 4 VAL-BLK 24 1) (inr (inr (inr (inr (inl refl))))) refl (inr (typed VAL-BLK v))),
-    by-test (λ (n : ℕ). n ≤ slot d object i 26) (eqb (slot d object i 4) MAP)
-        (λ t. rw (at 26) (m (need CHARACTERISTIC object 4 MAP 26 2) (inr (inr (inr (inr (inr (inr (inl refl))))))) refl (inr (typed MAP (eqb-true (slot d object i 4) MAP t)))))
-        (λ t. by-test (λ (n : ℕ). n ≤ slot d object i 26) (eqb (slot d object i 4) CURVE)
-        (λ u. rw (at 26) (m (need CHARACTERISTIC object 4 CURVE 26 1) (inr (inr (inr (inr (inr (inl refl)))))) refl (inr (typed CURVE (eqb-true (slot d object i 4) CURVE u)))))
+    by-test (λ (n : ℕ). n ≤ slot d object i axis-descr-seen) (eqb (slot d object i object-type) MAP)
+        (λ t. rw (at 26) (m (need CHARACTERISTIC object 4 MAP 26 2) (inr (inr (inr (inr (inr (inr (inl refl))))))) refl (inr (typed MAP (eqb-true (slot d object i object-type) MAP t)))))
+        (λ t. by-test (λ (n : ℕ). n ≤ slot d object i axis-descr-seen) (eqb (slot d object i object-type) CURVE)
+        (λ u. rw (at 26) (m (need CHARACTERISTIC object 4 CURVE 26 1) (inr (inr (inr (inr (inr (inl refl)))))) refl (inr (typed CURVE (eqb-true (slot d object i object-type) CURVE u)))))
         (λ u. omega arith)),
   ) where
     at : (k : ℕ) → slot d object i k ≡ current d object k
     at k = ap (λ (n : ℕ). slot d object n k) (let z : i ≡ count d object - 1 = omega arith in z)
 
-    typed : (n : ℕ) → slot d object i 4 ≡ n → (n ≤ current d object 4) × (current d object 4 ≤ n)
+    typed : (n : ℕ) → slot d object i object-type ≡ n → (n ≤ current d object 4) × (current d object 4 ≤ n)
     typed n v = let z : current d object 4 ≡ n = sym (at 4) ∙ v in (omega arith, omega arith)
 
   referred-met : Met d AXIS-DESCR → (a : ℕ) → suc a ≡ count d axis → Referred d a

@@ -4,15 +4,16 @@ use mathlib.Core.Path.{_≡_}
 use Rattle.records.specs.Records.{count, slot}
 use Rattle.rows.specs.Codes.{AXIS-PTS, CHARACTERISTIC, VAL-BLK, COM-AXIS}
 use Rattle.rows.specs.Sections.{object, axis}
+use Rattle.rows.specs.Slots.{first-held, block-code, object-type, object-max-points, number-of-values, axis-attribute, axis-max-points, axis-pts-ref-past}
 use Rattle.grammar.specs.Keyword.{axesOf}
 use Rattle.tree.specs.Tree.{Records}
 
 pub record Pointed (d : Records) : Type 0 where
   -- "MaxAxisPoints or NUMBER of 0 is 2"
-  pub points : (i : ℕ) → slot d object i 3 ≡ AXIS-PTS → 1 ≤ slot d object i 12
-  pub numbers : (i : ℕ) → slot d object i 3 ≡ CHARACTERISTIC → slot d object i 4 ≡ VAL-BLK → 1 ≤ slot d object i 25
-  pub axisPoints : (a : ℕ) → a < count d axis → 1 ≤ slot d axis a 6
-  -- a CURVE has one AXIS_DESCR and a MAP two, from the one in slot 2 on
-  pub axes : (i : ℕ) → slot d object i 3 ≡ CHARACTERISTIC → slot d object i 2 + axesOf (slot d object i 4) ≤ count d axis
+  pub points : (i : ℕ) → slot d object i block-code ≡ AXIS-PTS → 1 ≤ slot d object i object-max-points
+  pub numbers : (i : ℕ) → slot d object i block-code ≡ CHARACTERISTIC → slot d object i object-type ≡ VAL-BLK → 1 ≤ slot d object i number-of-values
+  pub axisPoints : (a : ℕ) → a < count d axis → 1 ≤ slot d axis a axis-max-points
+  -- a CURVE has one AXIS_DESCR and a MAP two, from its first on
+  pub axes : (i : ℕ) → slot d object i block-code ≡ CHARACTERISTIC → slot d object i first-held + axesOf (slot d object i object-type) ≤ count d axis
   -- "COM_AXIS with AXIS_PTS_REF": the reference is there
-  pub references : (a : ℕ) → slot d axis a 1 ≡ COM-AXIS → 1 ≤ slot d axis a 15
+  pub references : (a : ℕ) → slot d axis a axis-attribute ≡ COM-AXIS → 1 ≤ slot d axis a axis-pts-ref-past

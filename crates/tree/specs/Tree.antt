@@ -22,6 +22,7 @@ use Rattle.words.specs.Class.{classAt}
 use Rattle.records.specs.Records.{mostOf, count, slot, add}
 use Rattle.rows.specs.Codes.{FILE, ANY, PROJECT}
 use Rattle.rows.specs.Sections.{sections, table, entry, object, axis}
+use Rattle.rows.specs.Slots.{own-name, own-name-past, first-held, entry-sign, entry-size, entry-text, object-type}
 use Rattle.rows.specs.Row.{Param, name, string, whole, decimal, choice, new, points, alignment, nought, upper, pairs, number as entryNumber, text as entryText, plain, Row, Need}
 use Rattle.rows.specs.Rows.{rows, needed, keeps}
 use Rattle.grammar.specs.Move.{view, puts}
@@ -86,11 +87,11 @@ three m = signOf m ∷ m .whole ∷ m .tens ∷ []
 
 -- no record of section j has the name from a up to e
 abbrev pub Fresh : List ℕ → Records → ℕ → ℕ → ℕ → Type 0
-Fresh x d j a e = (i : ℕ) → i < count d j → samePart x (slot d j i 0) (slot d j i 1) x a e ≡ false
+Fresh x d j a e = (i : ℕ) → i < count d j → samePart x (slot d j i own-name) (slot d j i own-name-past) x a e ≡ false
 
 -- no entry of the current table, which are those from its first on, has the number
 abbrev pub Apart : Records → Scaled → Type 0
-Apart d m = (i : ℕ) → current d table 2 ≤ i → i < count d entry → slot d entry i 0 ≡ signOf m → slot d entry i 1 ≡ m .whole → ⊥
+Apart d m = (i : ℕ) → current d table first-held ≤ i → i < count d entry → slot d entry i entry-sign ≡ signOf m → slot d entry i entry-size ≡ m .whole → ⊥
 
 -- One parameter at the place k, up to the place e, in the block b: its numbers go to the current record of section j.
 -- Its row gives its form, by document 000; what document 01 asks of it more stands above each.
@@ -117,7 +118,7 @@ pub data Parameter (x : List ℕ) (b j : ℕ) : Param → ℕ → Records → �
 pub data Pairs (x : List ℕ) : ℕ → ℕ → Records → ℕ → Records → Type 0 where
   noMore : {k : ℕ} {d : Records} → Pairs x 0 k d k d
   pair : {n k e a f k′ : ℕ} {m : Scaled} {d d′ : Records} → Decimal x k m e → m .tens ≡ 0 → Apart d m
-      → count d entry < mostOf sections entry → Comes x e piece.string a f → Pairs x n f (written entry 2 (a ∷ f ∷ []) (appended entry (signOf m ∷ m .whole ∷ []) d)) k′ d′
+      → count d entry < mostOf sections entry → Comes x e piece.string a f → Pairs x n f (written entry entry-text (a ∷ f ∷ []) (appended entry (signOf m ∷ m .whole ∷ []) d)) k′ d′
       → Pairs x (suc n) k d k′ d′
 
 -- the parameters of a keyword one after the other; after how many pairs there are, so many pairs
@@ -131,7 +132,7 @@ pub data Parameters (x : List ℕ) (b j : ℕ) : List Param → ℕ → Records 
 
 -- how often a keyword may stand: "more AXIS_DESCR than the type has (VALUE, VAL_BLK none)"; any other once
 abbrev pub limit : Records → Row → ℕ
-limit d r = cond (eqb (r .adds) axis) (axesOf (current d object 4)) 1
+limit d r = cond (eqb (r .adds) axis) (axesOf (current d object object-type)) 1
 
 -- the keyword of row r may stand: "an unused conversion word, NUMBER or AXIS_PTS_REF" is 5, "once-only keyword twice" is 6
 pub record Free (d : Records) (r : Row) : Type 0 where

@@ -6,4 +6,4 @@ use Rattle.build.proofs.MethodLaws.{table-numbers}
 pub table-number-spec : {M : Type 1} → statement M
 table-number-spec =
     tie.close
-    (tie.spec (λ c κs. search needs) (λ c κs. search needs) (λ c κs. search needs) (λ c κs. search needs) (λ c. search table-numbers))
+    (tie.spec (λ c. search needs) (λ c κs. search needs) (λ c κs. search needs) (λ c κs. search needs) (λ c κs. search needs) (λ c. search table-numbers))

@@ -7,11 +7,11 @@ pub judge-element-spec : {M : Type 1} → statement M
 judge-element-spec =
     tie.close
     (tie.spec
-    (λ c κs. search frees)
     (λ c. search frees)
-    (λ c κs. search frees)
-    (λ c κs. search frees)
     (λ c. search frees)
-    (λ c κs. search frees)
+    (λ c. search frees)
+    (λ c. search frees)
+    (λ c. search frees)
+    (λ c. search frees)
     (λ c. search frees)
     (λ c. search frees))

@@ -6,7 +6,7 @@ use lib.Dec.{eqb}
 use Rattle.rows.specs.Codes.{FILE, ANY, PROJECT, MODULE, MOD-COMMON, COMPU-METHOD, COMPU-VTAB, RECORD-LAYOUT, AXIS-PTS, CHARACTERISTIC, AXIS-DESCR, MEASUREMENT, COEFFS-LINEAR, COEFFS, COMPU-TAB-REF, AXIS-PTS-REF, NUMBER, ECU-ADDRESS, FNC-VALUES, AXIS-PTS-X, AXIS-PTS-Y, NO-AXIS-PTS-X, NO-AXIS-PTS-Y, BYTE-ORDER, ALIGNMENT-BYTE, ALIGNMENT-WORD, ALIGNMENT-LONG, BIT-MASK, READ-ONLY, DEFAULT-VALUE, FORMAT, DISPLAY-IDENTIFIER, PHYS-UNIT, ASAP2-VERSION, A2ML-VERSION, UBYTE, SLONG, MSB-FIRST, MSB-LAST, ROW-DIR, COLUMN-DIR, INDEX-INCR, INDEX-DECR, DIRECT, VALUE, VAL-BLK, CURVE, MAP, IDENTICAL, LINEAR, RAT-FUNC, TAB-VERB, STD-AXIS, COM-AXIS}
 use Rattle.rows.specs.Sections.{file, method, table, entry, layout, object, axis, none}
 use Rattle.rows.specs.Slots.{unkept, module-seen, mod-common-seen, common-byte-order-seen, common-byte-order, common-alignment-byte-seen, common-alignment-byte, common-alignment-word-seen, common-alignment-word, common-alignment-long-seen, common-alignment-long, conversion-type, coeffs-seen, coeff-b, coeff-c, coeff-e, coeff-f, coeffs-linear-seen, linear-a, linear-b, compu-tab-ref-seen, compu-tab-ref, table-type, pairs-given, default-value-seen, default-value, entry-text, layout-alignment-byte-seen, layout-alignment-byte, layout-alignment-word-seen, layout-alignment-word, layout-alignment-long-seen, layout-alignment-long, fnc-values-seen, fnc-values-position, fnc-values-type, fnc-values-mode, fnc-values-addressing, axis-pts-x-seen, axis-pts-x-position, axis-pts-x-type, axis-pts-x-order, axis-pts-x-addressing, axis-pts-y-seen, axis-pts-y-position, axis-pts-y-type, axis-pts-y-order, axis-pts-y-addressing, no-axis-pts-x-seen, no-axis-pts-x-position, no-axis-pts-x-type, no-axis-pts-y-seen, no-axis-pts-y-position, no-axis-pts-y-type, object-type, object-address, object-layout, object-conversion, object-input-quantity, object-max-points, object-lower-limit, object-upper-limit, object-byte-order-seen, object-byte-order, bit-mask-seen, bit-mask, object-read-only-seen, number-seen, number-of-values, axis-descr-seen, ecu-address-seen, axis-attribute, axis-input-quantity, axis-conversion, axis-max-points, axis-lower-limit, axis-upper-limit, axis-pts-ref-seen, axis-pts-ref, axis-read-only-seen}
-use Rattle.rows.specs.Row.{Param, name, string, whole, decimal, choice, new, points, alignment, nought, upper, pairs, number, text, Row, block, single, keyword, under, passed, refusing, Need, need}
+use Rattle.rows.specs.Row.{opening, Param, name, string, whole, decimal, choice, new, points, alignment, nought, upper, pairs, number, text, Row, block, single, keyword, under, passed, refusing, Need, need}
 
 -- the greatest numbers of document 000's types
 abbrev pub uint : ℕ
@@ -54,7 +54,7 @@ rows =
     ∷ keyword CHARACTERISTIC BIT-MASK object bit-mask-seen (whole bit-mask 0 uint64 ∷ [])
     ∷ keyword CHARACTERISTIC READ-ONLY object object-read-only-seen []
     ∷ under CHARACTERISTIC NUMBER object number-seen object-type VAL-BLK (whole number-of-values 1 uint ∷ [])
-    ∷ record { parent = CHARACTERISTIC; word = AXIS-DESCR; opens = 1; sec = object; once = axis-descr-seen; when = 0; low = 0; high = 0; adds = axis; params = choice axis-attribute STD-AXIS COM-AXIS ∷ name axis-input-quantity ∷ name axis-conversion ∷ points axis-max-points ∷ decimal axis-lower-limit ∷ upper axis-upper-limit ∷ [] }
+    ∷ record { parent = CHARACTERISTIC; word = AXIS-DESCR; opens = opening; sec = object; once = axis-descr-seen; when = 0; low = 0; high = 0; adds = axis; params = choice axis-attribute STD-AXIS COM-AXIS ∷ name axis-input-quantity ∷ name axis-conversion ∷ points axis-max-points ∷ decimal axis-lower-limit ∷ upper axis-upper-limit ∷ [] }
     ∷ under AXIS-DESCR AXIS-PTS-REF axis axis-pts-ref-seen axis-attribute COM-AXIS (name axis-pts-ref ∷ [])
     ∷ keyword AXIS-DESCR READ-ONLY axis axis-read-only-seen []
     ∷ refusing AXIS-DESCR BYTE-ORDER

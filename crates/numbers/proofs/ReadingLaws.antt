@@ -1,6 +1,6 @@
 -- A reading in the lent slices.
-use mathlib.Core.Path.{_≡_, sym, ap, _∙_}
-use mathlib.Core.Bool.{false}
+use mathlib.Core.Path.{_≡_, refl, sym, ap, _∙_}
+use mathlib.Core.Bool.{Bool, true, false, _&&_}
 use mathlib.Core.List.{List, [], _∷_}
 use Prim.Native.Nat.{ℕ, _≤_, _<_}
 use native.Mathlib.Nat.{zero-add}
@@ -59,30 +59,33 @@ unfolding laidOver
 front-put vs l h = sets-eq vs l 0 (omega arith) ∙ rw zero-add
 
 -- ---- a read
+and-false : (b : Bool) → (b && false) ≡ false
+and-false true = refl
+and-false false = refl
+
 module _ (a : Answer Reading) (l : List ℤ) (m : List Float) where
-  pub read-short : length l < 5 → readCall 20 l m ≡ readTold a l m
+  pub read-short : (k : ℕ) → length l < k → k ≤ 5 → readCall 20 l m ≡ readTold a l m
   unfolding readTold
-  read-short h = rw (lt-leb 5 (length l) h)
+  read-short k h u = rw (lt-leb 5 (length l) (omega arith))
 
-  module _ (h : 5 ≤ length l) where
-    pub read-no-room : length m < 1 → readCall 20 l m ≡ readTold a l m
+  pub read-no-room : length m < 1 → readCall 20 l m ≡ readTold a l m
+  unfolding readTold
+  read-no-room k = rw (lt-leb 1 (length m) k, and-false)
+
+  module _ (h : 5 ≤ length l) (k : 1 ≤ length m) (x : ReadAnswer) (e : toldRead x ≡ a) where
+    pub read-refused : (n : ℕ) → x ≡ read.Refused n → readCall n l m ≡ readTold a l m
     unfolding readTold
-    read-no-room k = rw (le-leb 5 (length l) h, lt-leb 1 (length m) k)
+    read-refused n q =
+        let u : refused n ≡ a = ap toldRead (sym q) ∙ e in
+        rw (le-leb 5 (length l) h, le-leb 1 (length m) k, ← u)
 
-    module _ (k : 1 ≤ length m) (x : ReadAnswer) (e : toldRead x ≡ a) where
-      pub read-refused : (n : ℕ) → x ≡ read.Refused n → readCall n l m ≡ readTold a l m
-      unfolding readTold
-      read-refused n q =
-          let u : refused n ≡ a = ap toldRead (sym q) ∙ e in
-          rw (le-leb 5 (length l) h, le-leb 1 (length m) k, ← u)
-
-      pub read-given : (l′ : List ℤ) (m′ : List Float) (raw y : ℤ) (p : Physical) (s : Shown) → x ≡ read.Element raw p s → y ≡ raw
-          → (l′ ≡ sets l 0 (fiveOf y p (toldShown s))) × (m′ ≡ sets m 0 (numberShown (toldShown s) ∷ [])) → readCall 0 l′ m′ ≡ readTold a l m
-      unfolding readTold
-      read-given l′ m′ raw y p s q r z =
-          let u : given (record { raw = raw; value = p; display = toldShown s }) ≡ a = ap toldRead (sym q) ∙ e in
-          let v : l′ ≡ laidOver (fiveOf raw p (toldShown s)) l = z .0 ∙ rw r (front-put (fiveOf raw p (toldShown s)) l h) in
-          let w : m′ ≡ laidOver (numberShown (toldShown s) ∷ []) m = z .1 ∙ front-put (numberShown (toldShown s) ∷ []) m k in
-          rw (le-leb 5 (length l) h, le-leb 1 (length m) k, ← u, v, w)
+    pub read-given : (l′ : List ℤ) (m′ : List Float) (raw y : ℤ) (p : Physical) (s : Shown) → x ≡ read.Element raw p s → y ≡ raw
+        → (l′ ≡ sets l 0 (fiveOf y p (toldShown s))) × (m′ ≡ sets m 0 (numberShown (toldShown s) ∷ [])) → readCall 0 l′ m′ ≡ readTold a l m
+    unfolding readTold
+    read-given l′ m′ raw y p s q r z =
+        let u : given (record { raw = raw; value = p; display = toldShown s }) ≡ a = ap toldRead (sym q) ∙ e in
+        let v : l′ ≡ laidOver (fiveOf raw p (toldShown s)) l = z .0 ∙ rw r (front-put (fiveOf raw p (toldShown s)) l h) in
+        let w : m′ ≡ laidOver (numberShown (toldShown s) ∷ []) m = z .1 ∙ front-put (numberShown (toldShown s) ∷ []) m k in
+        rw (le-leb 5 (length l) h, le-leb 1 (length m) k, ← u, v, w)
 
 pub ruleset reads = (read-short, read-no-room, read-refused, read-given, needs)

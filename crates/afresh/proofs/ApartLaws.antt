@@ -29,7 +29,7 @@ touch-by s lo hi i p w b e f h = h ∙ rw (e, f)
 pub reached : (T : Tables) (g n i : ℕ) (s : Storage) → s ≡ storageOf T g → n ≡ elements T g → i < n → reachable s i
 reached T g n i s e p h = stored-reachable T g i s e (omega (arith, elements-most T g))
 
-pub touch-group : (t : List ℕ) (lo hi g i : ℕ) (s : Storage) (b : Bool) → s ≡ storageOf (tablesIn t) g → b ≡ shares lo hi (placeBy s i) (shapeOf (s .kind) .bytes) → b ≡ touched t lo hi g i
+pub touch-group : (t : List ℕ) (lo hi g i : ℕ) (s : Storage) (b : Bool) → s ≡ storageOf (tablesIn t) g → b ≡ shares lo hi (placeBy s i) (shapeOf (s .kind) .bytes) → b ≡ touched (tablesIn t) lo hi g i
 unfolding touched placeOf
 touch-group t lo hi g i s b e h = h ∙ rw e
 
@@ -95,7 +95,7 @@ pub passed-is : (t : List ℕ) (lo hi g n i : ℕ) (s : Storage) (all r : Bool) 
     → (r ≡ true → (j : ℕ) → j < s .x * s .y → (all || shares lo hi (placeBy s j) (shapeOf (s .kind) .bytes)) ≡ false) → r ≡ true
     → picked t lo hi all g i ≡ false
 passed-is t lo hi g n i s all r es en l h y =
-    let e : shares lo hi (placeBy s i) (shapeOf (s .kind) .bytes) ≡ touched t lo hi g i = touch-group t lo hi g i s (shares lo hi (placeBy s i) (shapeOf (s .kind) .bytes)) es refl in
+    let e : shares lo hi (placeBy s i) (shapeOf (s .kind) .bytes) ≡ touched (tablesIn t) lo hi g i = touch-group t lo hi g i s (shares lo hi (placeBy s i) (shapeOf (s .kind) .bytes)) es refl in
     let b : i < s .x * s .y = rw (es, ← en) l in
     rw (← e) (h y i b)
 

@@ -61,18 +61,18 @@ module _ (img : List ℕ) (r : List ℤ) (s : List ℕ) (a b : List ℤ) (k : �
 module _ (t img : List ℕ) (r : List ℤ) (s : List ℕ) (a b : List ℤ) (lo hi g i k : ℕ) (all q : Bool) (v : Storage) (ev : v ≡ storageOf (tablesIn t) g)
     (eq : q ≡ shares lo hi (placeBy v i) (shapeOf (v .kind) .bytes)) where
   test-is : (x : Bool) → (all || q) ≡ x → picked t lo hi all g i ≡ x
-  test-is x h = let e : q ≡ touched t lo hi g i = touch-group t lo hi g i v q ev eq in rw e at h
+  test-is x h = let e : q ≡ touched (tablesIn t) lo hi g i = touch-group t lo hi g i v q ev eq in rw e at h
 
-  pub line-left : (all || q) ≡ false → kept img r s a b ≡ putLine (picked t lo hi all g i) k (lineOf t img g i) (kept img r s a b)
-  line-left h = left-alone img r s a b k (picked t lo hi all g i) (lineOf t img g i) (test-is false h)
+  pub line-left : (all || q) ≡ false → kept img r s a b ≡ putLine (picked t lo hi all g i) k (lineOf (tablesIn t) img g i) (kept img r s a b)
+  line-left h = left-alone img r s a b k (picked t lo hi all g i) (lineOf (tablesIn t) img g i) (test-is false h)
 
   -- x, y, d and e are the line that the code makes by the meaning m
   pub line-afresh : (r′ : List ℤ) (s′ : List ℕ) (a′ b′ : List ℤ) (x : ℤ) (y : ℕ) (d e : ℤ) (m : Meaning) → (all || q) ≡ true → m ≡ meaningOf t g
       → r′ ≡ set r k x → s′ ≡ set s k y → a′ ≡ set a k d → b′ ≡ set b k e
-      → ((h : ℕ) → v ≡ storageOf (tablesIn t) h → m ≡ meaningOf t h → record { raw = x; state = y; first = d; second = e } ≡ lineOf t img h i)
-      → kept img r′ s′ a′ b′ ≡ putLine (picked t lo hi all g i) k (lineOf t img g i) (kept img r s a b)
+      → ((h : ℕ) → v ≡ storageOf (tablesIn t) h → m ≡ meaningOf t h → record { raw = x; state = y; first = d; second = e } ≡ lineOf (tablesIn t) img h i)
+      → kept img r′ s′ a′ b′ ≡ putLine (picked t lo hi all g i) k (lineOf (tablesIn t) img g i) (kept img r s a b)
   line-afresh r′ s′ a′ b′ x y d e m h em pr ps pa pb f =
-      put-afresh img r s a b k (picked t lo hi all g i) r′ s′ a′ b′ (lineOf t img g i) (record { raw = x; state = y; first = d; second = e }) (test-is true h) (f g ev em) (pr, ps, pa, pb)
+      put-afresh img r s a b k (picked t lo hi all g i) r′ s′ a′ b′ (lineOf (tablesIn t) img g i) (record { raw = x; state = y; first = d; second = e }) (test-is true h) (f g ev em) (pr, ps, pa, pb)
 
 pub ruleset one-line = (line-left, line-afresh, needs)
 
@@ -84,32 +84,32 @@ module _ (s : ℕ → ℕ → Bool) (t img : List ℕ) (g k : ℕ) where
   pub group-passed : (n : ℕ) (c : Kept) → ((i : ℕ) → i < n → s g i ≡ false) → c ≡ putLines s t img g k n c
   group-passed zero c h = refl
   group-passed (suc n) c h =
-      left-alone (c .image) (c .raw) (c .state) (c .first) (c .second) (k + n) (s g n) (lineOf t img g n) (h n (omega arith))
-      ∙ ap (putLine (s g n) (k + n) (lineOf t img g n)) (group-passed n c (λ i l. h i (omega arith)))
+      left-alone (c .image) (c .raw) (c .state) (c .first) (c .second) (k + n) (s g n) (lineOf (tablesIn t) img g n) (h n (omega arith))
+      ∙ ap (putLine (s g n) (k + n) (lineOf (tablesIn t) img g n)) (group-passed n c (λ i l. h i (omega arith)))
 
   lines-raw : (i : ℕ) (c : Kept) → length (putLines s t img g k i c .raw) ≡ length (c .raw)
   lines-raw zero c = refl
   lines-raw (suc i) c =
       let d = putLines s t img g k i c in
-      length-set (d .raw) (k + i) (cond (s g i) (lineOf t img g i .raw) (getD (d .raw) (k + i) (pos 0))) ∙ lines-raw i c
+      length-set (d .raw) (k + i) (cond (s g i) (lineOf (tablesIn t) img g i .raw) (getD (d .raw) (k + i) (pos 0))) ∙ lines-raw i c
 
   lines-state : (i : ℕ) (c : Kept) → length (putLines s t img g k i c .state) ≡ length (c .state)
   lines-state zero c = refl
   lines-state (suc i) c =
       let d = putLines s t img g k i c in
-      length-set (d .state) (k + i) (cond (s g i) (lineOf t img g i .state) (getD (d .state) (k + i) 0)) ∙ lines-state i c
+      length-set (d .state) (k + i) (cond (s g i) (lineOf (tablesIn t) img g i .state) (getD (d .state) (k + i) 0)) ∙ lines-state i c
 
   lines-first : (i : ℕ) (c : Kept) → length (putLines s t img g k i c .first) ≡ length (c .first)
   lines-first zero c = refl
   lines-first (suc i) c =
       let d = putLines s t img g k i c in
-      length-set (d .first) (k + i) (cond (s g i) (lineOf t img g i .first) (getD (d .first) (k + i) (pos 0))) ∙ lines-first i c
+      length-set (d .first) (k + i) (cond (s g i) (lineOf (tablesIn t) img g i .first) (getD (d .first) (k + i) (pos 0))) ∙ lines-first i c
 
   lines-second : (i : ℕ) (c : Kept) → length (putLines s t img g k i c .second) ≡ length (c .second)
   lines-second zero c = refl
   lines-second (suc i) c =
       let d = putLines s t img g k i c in
-      length-set (d .second) (k + i) (cond (s g i) (lineOf t img g i .second) (getD (d .second) (k + i) (pos 0))) ∙ lines-second i c
+      length-set (d .second) (k + i) (cond (s g i) (lineOf (tablesIn t) img g i .second) (getD (d .second) (k + i) (pos 0))) ∙ lines-second i c
 
   -- what the loop over a group's n lines keeps: c is c₀ with the first i of them worked out
   pub record InGroup (n i : ℕ) (c₀ c : Kept) : Type 0 where
@@ -127,7 +127,7 @@ module _ (s : ℕ → ℕ → Bool) (t img : List ℕ) (g k : ℕ) where
 
     -- v and m are how the group is stored and what its numbers mean by
     pub group-turn : (c′ : Kept) (v : Storage) (m : Meaning) → i < n → v ≡ storageOf (tablesIn t) g → m ≡ meaningOf t g
-        → ((h : ℕ) → v ≡ storageOf (tablesIn t) h → m ≡ meaningOf t h → c′ ≡ putLine (s h i) (k + i) (lineOf t img h i) c)
+        → ((h : ℕ) → v ≡ storageOf (tablesIn t) h → m ≡ meaningOf t h → c′ ≡ putLine (s h i) (k + i) (lineOf (tablesIn t) img h i) c)
         → InGroup n (i + 1) c₀ c′
     group-turn c′ v m l ev em q =
         record { few = f .few; ends = f .ends; within = omega arith; so-far = q g ev em ∙ (let p = f .so-far in rw (p, add-one i)) }
@@ -168,10 +168,10 @@ module _ (s : ℕ → ℕ → Bool) (t img : List ℕ) (k₀ : Kept) where
     pub line : k ≡ sumBelow g counts + i
     pub index : i ≤ counts g
     pub last : groups t ≤ g → i ≡ 0
-    pub raws : Column (λ g i. lineOf t img g i .raw) (pos 0) (k₀ .raw) (c .raw) g i
-    pub states : Column (λ g i. lineOf t img g i .state) 0 (k₀ .state) (c .state) g i
-    pub firsts : Column (λ g i. lineOf t img g i .first) (pos 0) (k₀ .first) (c .first) g i
-    pub seconds : Column (λ g i. lineOf t img g i .second) (pos 0) (k₀ .second) (c .second) g i
+    pub raws : Column (λ g i. lineOf (tablesIn t) img g i .raw) (pos 0) (k₀ .raw) (c .raw) g i
+    pub states : Column (λ g i. lineOf (tablesIn t) img g i .state) 0 (k₀ .state) (c .state) g i
+    pub firsts : Column (λ g i. lineOf (tablesIn t) img g i .first) (pos 0) (k₀ .first) (c .first) g i
+    pub seconds : Column (λ g i. lineOf (tablesIn t) img g i .second) (pos 0) (k₀ .second) (c .second) g i
 
   none : {A : Type 0} (w : ℕ → ℕ → A) (d : A) (l : List A) → Column w d l l 0 0
   none w d l = rw (upto-none (keep s w d l) counts) (over-none l)
@@ -210,7 +210,7 @@ module _ (s : ℕ → ℕ → Bool) (t img : List ℕ) (k₀ : Kept) where
       line-below : (n m : ℕ) → n ≡ groups t → m ≡ counts g → g < n → i < m → k < room k₀
       line-below n m pn pm lt h = let b : sumBelow g counts + counts g ≤ sumBelow (groups t) counts = sum-in counts g (groups t) (omega arith) in omega (arith, f .line)
 
-      refresh-turn : (n m : ℕ) (c′ : Kept) → n ≡ groups t → m ≡ counts g → g < n → i < m → c′ ≡ putLine (s g i) k (lineOf t img g i) c → Refreshing g (i + 1) (k + 1) c′
+      refresh-turn : (n m : ℕ) (c′ : Kept) → n ≡ groups t → m ≡ counts g → g < n → i < m → c′ ≡ putLine (s g i) k (lineOf (tablesIn t) img g i) c → Refreshing g (i + 1) (k + 1) c′
       refresh-turn n m c′ pn pm lt h e =
           let b : k < room k₀ = line-below n m pn pm lt h in
           record {
@@ -218,10 +218,10 @@ module _ (s : ℕ → ℕ → Bool) (t img : List ℕ) (k₀ : Kept) where
             line = omega (arith, f .line);
             index = omega arith;
             last = λ z. absurd (omega arith);
-            raws = turn s (λ g i. lineOf t img g i .raw) (pos 0) counts (k₀ .raw) (c .raw) (c′ .raw) g i k (f .line) (omega arith) (f .raws) (ap (λ (z : Kept). z .raw) e);
-            states = turn s (λ g i. lineOf t img g i .state) 0 counts (k₀ .state) (c .state) (c′ .state) g i k (f .line) (omega arith) (f .states) (ap (λ (z : Kept). z .state) e);
-            firsts = turn s (λ g i. lineOf t img g i .first) (pos 0) counts (k₀ .first) (c .first) (c′ .first) g i k (f .line) (omega arith) (f .firsts) (ap (λ (z : Kept). z .first) e);
-            seconds = turn s (λ g i. lineOf t img g i .second) (pos 0) counts (k₀ .second) (c .second) (c′ .second) g i k (f .line) (omega arith) (f .seconds) (ap (λ (z : Kept). z .second) e);
+            raws = turn s (λ g i. lineOf (tablesIn t) img g i .raw) (pos 0) counts (k₀ .raw) (c .raw) (c′ .raw) g i k (f .line) (omega arith) (f .raws) (ap (λ (z : Kept). z .raw) e);
+            states = turn s (λ g i. lineOf (tablesIn t) img g i .state) 0 counts (k₀ .state) (c .state) (c′ .state) g i k (f .line) (omega arith) (f .states) (ap (λ (z : Kept). z .state) e);
+            firsts = turn s (λ g i. lineOf (tablesIn t) img g i .first) (pos 0) counts (k₀ .first) (c .first) (c′ .first) g i k (f .line) (omega arith) (f .firsts) (ap (λ (z : Kept). z .first) e);
+            seconds = turn s (λ g i. lineOf (tablesIn t) img g i .second) (pos 0) counts (k₀ .second) (c .second) (c′ .second) g i k (f .line) (omega arith) (f .seconds) (ap (λ (z : Kept). z .second) e);
           }
 
       -- while the lines of the groups so far have room, no column has another length
@@ -275,10 +275,10 @@ module _ (s : ℕ → ℕ → Bool) (t img : List ℕ) (k₀ : Kept) where
         unfolding refreshed
         refresh-end e = λ j. record {
           image = e j;
-          raw = whole (λ g i. lineOf t img g i .raw) (pos 0) (k₀ .raw) (c .raw) (f .raws) j;
-          state = whole (λ g i. lineOf t img g i .state) 0 (k₀ .state) (c .state) (f .states) j;
-          first = whole (λ g i. lineOf t img g i .first) (pos 0) (k₀ .first) (c .first) (f .firsts) j;
-          second = whole (λ g i. lineOf t img g i .second) (pos 0) (k₀ .second) (c .second) (f .seconds) j;
+          raw = whole (λ g i. lineOf (tablesIn t) img g i .raw) (pos 0) (k₀ .raw) (c .raw) (f .raws) j;
+          state = whole (λ g i. lineOf (tablesIn t) img g i .state) 0 (k₀ .state) (c .state) (f .states) j;
+          first = whole (λ g i. lineOf (tablesIn t) img g i .first) (pos 0) (k₀ .first) (c .first) (f .firsts) j;
+          second = whole (λ g i. lineOf (tablesIn t) img g i .second) (pos 0) (k₀ .second) (c .second) (f .seconds) j;
         }
 
   -- a group's lines: from its first line to the next group's

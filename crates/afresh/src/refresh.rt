@@ -77,7 +77,7 @@ fn refresh_line(
     requires { ⌜ reachable s i ⌝ }
     ensures { λ _. ⌜ ((g : ℕ) → s ≡ storageOf (tablesIn (now (t .entry))) g → m ≡ meaningOf (now (t .entry)) g
         → kept (now (image .entry)) (now (raw .exit)) (now (state .exit)) (now (first .exit)) (now (second .exit))
-        ≡ putLine (picked (now (t .entry)) lo (lo + many) all g i) k (lineOf (now (t .entry)) (now (image .entry)) g i)
+        ≡ putLine (picked (now (t .entry)) lo (lo + many) all g i) k (lineOf (tablesIn (now (t .entry))) (now (image .entry)) g i)
         (kept (now (image .entry)) (now (raw .entry)) (now (state .entry)) (now (first .entry)) (now (second .entry)))) ⌝ }
 {
     if all | has_byte(s, lo, many, i) {

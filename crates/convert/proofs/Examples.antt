@@ -6,6 +6,7 @@ use mathlib.Core.Path.{_≡_, refl}
 use mathlib.Core.Bool.{true, false}
 use mathlib.Core.List.{List, [], _∷_, map}
 use lib.IntN.{pos, negℤ}
+use lib.ListN.{getD}
 use Rattle.number.specs.Answer.{given, refused}
 use Rattle.number.specs.Digits.{digitOf, leading, trailing, valueOn, allDigits}
 use Rattle.number.specs.Decimal.{Scaled, signs, minus, lowest, made, pointed, decimalOf}
@@ -13,7 +14,7 @@ use Rattle.convert.specs.Limit.{formed, atMost, withinLimits}
 use Rattle.convert.specs.Fraction.{none, number, text}
 use Rattle.convert.specs.Shown.{nothing, words, shown}
 use Rattle.convert.specs.Round.{away, rounded}
-use Rattle.convert.specs.Verbal.{textOf, entriesIn, verbalOf}
+use Rattle.convert.specs.Verbal.{textOf, entriesFrom, verbalOf}
 use Rattle.convert.specs.Asked.{askedOf}
 
 bytes : String → List ℕ
@@ -39,16 +40,19 @@ halves : map (λ (n : ℕ). rounded away n 10) (24 ∷ 25 ∷ 26 ∷ []) ≡ 2 �
 unfolding rounded
 halves = refl
 
--- a table of the numbers 1 and −2 at cell 1, with a default at 90 to 95, and with none
-table : List ℕ
-table = 7 ∷ 0 ∷ 1 ∷ 10 ∷ 14 ∷ 1 ∷ 2 ∷ 20 ∷ 25 ∷ []
+-- a table of the numbers 1 and −2 from entry 1 on, with a default at 90 to 95, and with none
+table : List (List ℕ)
+table = [] ∷ (0 ∷ 1 ∷ 10 ∷ 14 ∷ []) ∷ (1 ∷ 2 ∷ 20 ∷ 25 ∷ []) ∷ []
 
-texts : map (verbalOf table 1 2 90 95) (pos 1 ∷ negℤ (pos 2) ∷ pos 2 ∷ []) ≡ text 10 14 ∷ text 20 25 ∷ text 90 95 ∷ []
-unfolding table verbalOf entriesIn textOf
+inTable : ℕ → ℕ → ℕ
+inTable e k = getD (getD table e []) k 0
+
+texts : map (verbalOf inTable 1 2 90 95) (pos 1 ∷ negℤ (pos 2) ∷ pos 2 ∷ []) ≡ text 10 14 ∷ text 20 25 ∷ text 90 95 ∷ []
+unfolding table inTable verbalOf entriesFrom textOf
 texts = refl
 
-no-text : verbalOf table 1 2 0 0 (pos 2) ≡ none
-unfolding table verbalOf entriesIn textOf
+no-text : verbalOf inTable 1 2 0 0 (pos 2) ≡ none
+unfolding table inTable verbalOf entriesFrom textOf
 no-text = refl
 
 -- above 2^53 nothing is shown; a text is shown by its places

@@ -4,7 +4,6 @@ use mathlib.Core.List.{List, [], _∷_}
 use Prim.Native.Nat.{ℕ, zero, suc, _^_}
 use lib.Dec.{eqb, ltb}
 use lib.IntN.{ℤ}
-use lib.ListN.{getD, drop}
 use Rattle.number.specs.Signed.{signedOf}
 use Rattle.convert.specs.Whole.{eqZ}
 use Rattle.convert.specs.Fraction.{Value, none, text}
@@ -24,24 +23,24 @@ textOf (e ∷ es) other i = cond (eqZ (e .number) i) (text (e .first) (e .past))
 abbrev pub defaultOf : ℕ → ℕ → Value
 defaultOf first past = cond (eqb first 0 && eqb past 0) none (text first past)
 
--- A cell that holds a text place; a cell too large for any place counts as 0.
+-- A number that is a text place; one too large for any place counts as 0.
 abbrev pub placeIn : ℕ → ℕ
 placeIn n = cond (ltb n (2 ^ 63)) n 0
 
--- An entry's four cells: its number's sign (0: none) and size, the text's first byte and the one past it. A cell that is missing is 0.
-abbrev pub entryIn : List ℕ → Entry
-entryIn cells =
+-- An entry by its four numbers: its number's sign (0: none) and size, the text's first byte and the one past it.
+abbrev pub entryOf : (ℕ → ℕ) → Entry
+entryOf f =
     record {
-      number = signedOf (not (eqb (getD cells 0 0) 0)) (getD cells 1 0);
-      first = placeIn (getD cells 2 0);
-      past = placeIn (getD cells 3 0);
+      number = signedOf (not (eqb (f 0) 0)) (f 1);
+      first = placeIn (f 2);
+      past = placeIn (f 3);
     }
 
--- The entries that stand first in the cells.
-unfoldable pub entriesIn : ℕ → List ℕ → List Entry
-entriesIn zero cells = []
-entriesIn (suc n) cells = entryIn cells ∷ entriesIn n (drop 4 cells)
+-- So many entries from entry e on: number k of entry e is f e k.
+unfoldable pub entriesFrom : (ℕ → ℕ → ℕ) → ℕ → ℕ → List Entry
+entriesFrom f e zero = []
+entriesFrom f e (suc n) = entryOf (f e) ∷ entriesFrom f (suc e) n
 
--- A table's text for a raw number: count entries from a cell on, and the default's two places.
-unfoldable pub verbalOf : List ℕ → ℕ → ℕ → ℕ → ℕ → ℤ → Value
-verbalOf cells at count first past i = textOf (entriesIn count (drop at cells)) (defaultOf (placeIn first) (placeIn past)) i
+-- A table's text for a raw number: count entries from entry e on, and the default's two places.
+unfoldable pub verbalOf : (ℕ → ℕ → ℕ) → ℕ → ℕ → ℕ → ℕ → ℤ → Value
+verbalOf f e count first past i = textOf (entriesFrom f e count) (defaultOf (placeIn first) (placeIn past)) i

@@ -192,7 +192,7 @@ module _ (t : List ℕ) (n base : ℕ) where
         ∙ bits-stored t g (q .index) (k .image) z (mask-inside n (length (k .image)) t (a .rule) g (a .group-below)) b m)
 
     -- no line of an element that shares no byte with the element written
-    pub line-apart-kept : (h j : ℕ) → h < groups t → j < elements (tablesIn t) h → touched t (low t g (q .index)) (high t g (q .index)) h j ≡ false
+    pub line-apart-kept : (h j : ℕ) → h < groups t → j < elements (tablesIn t) h → touched (tablesIn t) (low t g (q .index)) (high t g (q .index)) h j ≡ false
         → lineAt after-write (sumBelow h (elements (tablesIn t)) + j) ≡ lineAt k (sumBelow h (elements (tablesIn t)) + j)
     line-apart-kept h j a b e =
         by-answer t n base k q (λ (y : After). lineAt (y .left) (sumBelow h (elements (tablesIn t)) + j) ≡ lineAt k (sumBelow h (elements (tablesIn t)) + j))
@@ -206,34 +206,34 @@ module _ (t : List ℕ) (n base : ℕ) where
 
     -- ---- an accepted write is read back: z is the raw number that the judgement gave, for a physical value the nearest one
     pub reads-as-written : (z : ℤ) → judgedRequest t (lentBy n base k) (hasRoom t k) q ≡ given z → ((j : ℕ) → getD (k .image) j 0 < 256)
-        → rawIn t (after-write .image) g (q .index) ≡ z
+        → rawIn (tablesIn t) (after-write .image) g (q .index) ≡ z
     reads-as-written z e b =
-        by-answer t n base k q (λ (y : After). rawIn t (y .left .image) g (q .index) ≡ z) (λ c d. absurd (never c z (sym d ∙ e)))
+        by-answer t n base k q (λ (y : After). rawIn (tablesIn t) (y .left .image) g (q .index) ≡ z) (λ c d. absurd (never c z (sym d ∙ e)))
         (λ y d. let same : y ≡ z = same-given y z (sym d ∙ e) in
         let a = accepted t (lentBy n base k) (hasRoom t k) q y d in
-        ap (λ (i : List ℕ). rawIn t i g (q .index)) (image-after t g (q .index) k y)
+        ap (λ (i : List ℕ). rawIn (tablesIn t) i g (q .index)) (image-after t g (q .index) k y)
         ∙ raw-stored t g (q .index) (k .image) y (mask-inside n (length (k .image)) t (a .rule) g (a .group-below)) b
         (wanted-fits (tablesIn t) g (q .wanted) y (a .wants)) (element-inside n (length (k .image)) t (a .rule) g (q .index) (a .group-below) (a .index-below))
         ∙ same)
 
     -- and so the call that reads the element answers
     pub reads-back : (z : ℤ) → judgedRequest t (lentBy n base k) (hasRoom t k) q ≡ given z → ((j : ℕ) → getD (k .image) j 0 < 256)
-        → reading t (after-write .image) (lentBy n base after-write) (q .object) (q .part) (q .index) ≡ given (readingOf t g z)
+        → reading t (after-write .image) (lentBy n base after-write) (q .object) (q .part) (q .index) ≡ given (readingOf (tablesIn t) g z)
     unfolding reading checked
     reads-back z e b =
         let a = accepted t (lentBy n base k) (hasRoom t k) q z e in
-        rw (length-kept, a .sizes, a .rule, a .element) (ap (λ (v : ℤ). given (readingOf t g v)) (reads-as-written z e b))
+        rw (length-kept, a .sizes, a .rule, a .element) (ap (λ (v : ℤ). given (readingOf (tablesIn t) g v)) (reads-as-written z e b))
 
   -- a raw write: the element reads as the number asked
   pub reads-as-asked : (k : Kept) (o p i : ℕ) (z : ℤ) → writing t n base k (request o p i (rawNumber z)) .answer ≡ given (tt {0}) → ((j : ℕ) → getD (k .image) j 0 < 256)
-      → rawIn t (writing t n base k (request o p i (rawNumber z)) .left .image) (groupOf o p) i ≡ z
+      → rawIn (tablesIn t) (writing t n base k (request o p i (rawNumber z)) .left .image) (groupOf o p) i ≡ z
   reads-as-asked k o p i z h b = go (judgedRequest t (lentBy n base k) (hasRoom t k) (request o p i (rawNumber z))) refl h
     where
       is : (y : ℤ) → judgedRequest t (lentBy n base k) (hasRoom t k) (request o p i (rawNumber z)) ≡ given y → y ≡ z
       is y e = sym (wanted-raw (tablesIn t) (groupOf o p) z y (accepted t (lentBy n base k) (hasRoom t k) (request o p i (rawNumber z)) y e .wants))
 
       go : (a : Answer ℤ) → judgedRequest t (lentBy n base k) (hasRoom t k) (request o p i (rawNumber z)) ≡ a → writing t n base k (request o p i (rawNumber z)) .answer ≡ given (tt {0})
-          → rawIn t (writing t n base k (request o p i (rawNumber z)) .left .image) (groupOf o p) i ≡ z
+          → rawIn (tablesIn t) (writing t n base k (request o p i (rawNumber z)) .left .image) (groupOf o p) i ≡ z
       go (given y) e w = reads-as-written k (request o p i (rawNumber z)) y e b ∙ is y e
       go (refused c) e w = absurd (never c (tt {0}) (sym (refused-answer t n base k (request o p i (rawNumber z)) c e) ∙ w))
 

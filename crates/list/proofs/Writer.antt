@@ -40,31 +40,31 @@ apart lo hi p w = go (ltb p hi) refl
     go false e h = inr (ltb-false p hi e)
 
 -- the lines that s does not pick are the same from I and from J
-picked-remade : (s : ℕ → ℕ → Bool) (t I J : List ℕ) → ((g i : ℕ) → s g i ≡ false → lineOf t I g i ≡ lineOf t J g i)
+picked-remade : (s : ℕ → ℕ → Bool) (t I J : List ℕ) → ((g i : ℕ) → s g i ≡ false → lineOf (tablesIn t) I g i ≡ lineOf (tablesIn t) J g i)
     → (k : Kept) → refreshed s t J (remade t (withImage I k)) ≡ remade t (withImage J k)
 unfolding refreshed remade
 picked-remade s t I J h k = λ v. record {
   image = J;
-  raw = fresh-made s (λ g i. lineOf t I g i .raw) (λ g i. lineOf t J g i .raw) (pos 0) (elements (tablesIn t)) (groups t) (k .raw) (λ g i a b e. ap (λ (y : Line). y .raw) (h g i e)) v;
-  state = fresh-made s (λ g i. lineOf t I g i .state) (λ g i. lineOf t J g i .state) 0 (elements (tablesIn t)) (groups t) (k .state) (λ g i a b e. ap (λ (y : Line). y .state) (h g i e)) v;
-  first = fresh-made s (λ g i. lineOf t I g i .first) (λ g i. lineOf t J g i .first) (pos 0) (elements (tablesIn t)) (groups t) (k .first) (λ g i a b e. ap (λ (y : Line). y .first) (h g i e)) v;
-  second = fresh-made s (λ g i. lineOf t I g i .second) (λ g i. lineOf t J g i .second) (pos 0) (elements (tablesIn t)) (groups t) (k .second) (λ g i a b e. ap (λ (y : Line). y .second) (h g i e)) v;
+  raw = fresh-made s (λ g i. lineOf (tablesIn t) I g i .raw) (λ g i. lineOf (tablesIn t) J g i .raw) (pos 0) (elements (tablesIn t)) (groups t) (k .raw) (λ g i a b e. ap (λ (y : Line). y .raw) (h g i e)) v;
+  state = fresh-made s (λ g i. lineOf (tablesIn t) I g i .state) (λ g i. lineOf (tablesIn t) J g i .state) 0 (elements (tablesIn t)) (groups t) (k .state) (λ g i a b e. ap (λ (y : Line). y .state) (h g i e)) v;
+  first = fresh-made s (λ g i. lineOf (tablesIn t) I g i .first) (λ g i. lineOf (tablesIn t) J g i .first) (pos 0) (elements (tablesIn t)) (groups t) (k .first) (λ g i a b e. ap (λ (y : Line). y .first) (h g i e)) v;
+  second = fresh-made s (λ g i. lineOf (tablesIn t) I g i .second) (λ g i. lineOf (tablesIn t) J g i .second) (pos 0) (elements (tablesIn t)) (groups t) (k .second) (λ g i a b e. ap (λ (y : Line). y .second) (h g i e)) v;
 }
 
 module _ (t I J : List ℕ) (lo hi : ℕ) (s : SameOutside I J lo hi) where
   -- an element that has none of the bytes has the line that it had
-  pub line-alone : (g i : ℕ) → touched t lo hi g i ≡ false → lineOf t I g i ≡ lineOf t J g i
+  pub line-alone : (g i : ℕ) → touched (tablesIn t) lo hi g i ≡ false → lineOf (tablesIn t) I g i ≡ lineOf (tablesIn t) J g i
   unfolding touched lineOf rawIn
   line-alone g i e =
       let T = tablesIn t in
       let a = apart lo hi (placeOf T g i) (bytes T g) e in
-      ap (λ (v : ℤ). lineWith t v (held (means t g v)))
+      ap (λ (v : ℤ). lineWith v (held (means (tablesIn t) g v)))
       (reads-alone (first T g) (placeOf T g i) (shapeOf (kind T g)) (mask T g) I J (s .long)
       (λ j x y. s .else j (⊎-elim {C = (j < lo) ⊎ (hi ≤ j)} (λ h. inl (omega arith)) (λ h. inr (omega arith)) a)))
 
   -- "works out afresh every line that shares a byte .., whatever those lines held, and no other": so a list made anew from I becomes the one made anew from J
-  pub writer-remade : (k : Kept) → refreshed (touched t lo hi) t J (remade t (withImage I k)) ≡ remade t (withImage J k)
-  writer-remade = picked-remade (touched t lo hi) t I J line-alone
+  pub writer-remade : (k : Kept) → refreshed (touched (tablesIn t) lo hi) t J (remade t (withImage I k)) ≡ remade t (withImage J k)
+  writer-remade = picked-remade (touched (tablesIn t) lo hi) t I J line-alone
 
 -- ---- the frame, for any choice of lines, any image and any list
 module _ (s : ℕ → ℕ → Bool) (t J : List ℕ) (k : Kept) where
@@ -73,30 +73,30 @@ module _ (s : ℕ → ℕ → Bool) (t J : List ℕ) (k : Kept) where
       → lineAt (refreshed s t J k) (sumBelow g (elements (tablesIn t)) + i) ≡ lineAt k (sumBelow g (elements (tablesIn t)) + i)
   unfolding refreshed
   line-kept g i a b e = λ v. record {
-    raw = fresh-else s (λ g i. lineOf t J g i .raw) (pos 0) (elements (tablesIn t)) (groups t) (k .raw) g i a b e v;
-    state = fresh-else s (λ g i. lineOf t J g i .state) 0 (elements (tablesIn t)) (groups t) (k .state) g i a b e v;
-    first = fresh-else s (λ g i. lineOf t J g i .first) (pos 0) (elements (tablesIn t)) (groups t) (k .first) g i a b e v;
-    second = fresh-else s (λ g i. lineOf t J g i .second) (pos 0) (elements (tablesIn t)) (groups t) (k .second) g i a b e v;
+    raw = fresh-else s (λ g i. lineOf (tablesIn t) J g i .raw) (pos 0) (elements (tablesIn t)) (groups t) (k .raw) g i a b e v;
+    state = fresh-else s (λ g i. lineOf (tablesIn t) J g i .state) 0 (elements (tablesIn t)) (groups t) (k .state) g i a b e v;
+    first = fresh-else s (λ g i. lineOf (tablesIn t) J g i .first) (pos 0) (elements (tablesIn t)) (groups t) (k .first) g i a b e v;
+    second = fresh-else s (λ g i. lineOf (tablesIn t) J g i .second) (pos 0) (elements (tablesIn t)) (groups t) (k .second) g i a b e v;
   }
 
   -- "Room past the used entries is untouched"
   pub rest-kept : (j : ℕ) → sumBelow (groups t) (elements (tablesIn t)) ≤ j → lineAt (refreshed s t J k) j ≡ lineAt k j
   unfolding refreshed
   rest-kept j a = λ v. record {
-    raw = fresh-past s (λ g i. lineOf t J g i .raw) (pos 0) (elements (tablesIn t)) (groups t) (k .raw) j a v;
-    state = fresh-past s (λ g i. lineOf t J g i .state) 0 (elements (tablesIn t)) (groups t) (k .state) j a v;
-    first = fresh-past s (λ g i. lineOf t J g i .first) (pos 0) (elements (tablesIn t)) (groups t) (k .first) j a v;
-    second = fresh-past s (λ g i. lineOf t J g i .second) (pos 0) (elements (tablesIn t)) (groups t) (k .second) j a v;
+    raw = fresh-past s (λ g i. lineOf (tablesIn t) J g i .raw) (pos 0) (elements (tablesIn t)) (groups t) (k .raw) j a v;
+    state = fresh-past s (λ g i. lineOf (tablesIn t) J g i .state) 0 (elements (tablesIn t)) (groups t) (k .state) j a v;
+    first = fresh-past s (λ g i. lineOf (tablesIn t) J g i .first) (pos 0) (elements (tablesIn t)) (groups t) (k .first) j a v;
+    second = fresh-past s (λ g i. lineOf (tablesIn t) J g i .second) (pos 0) (elements (tablesIn t)) (groups t) (k .second) j a v;
   }
 
   -- as many lines as before, so that a writer may go on
   pub room-refreshed : sumBelow (groups t) (elements (tablesIn t)) ≤ room k → room (refreshed s t J k) ≡ room k
   unfolding refreshed
   room-refreshed h =
-      let a = length-fresh s (λ g i. lineOf t J g i .raw) (pos 0) (elements (tablesIn t)) (groups t) (k .raw) (omega arith) in
-      let b = length-fresh s (λ g i. lineOf t J g i .state) 0 (elements (tablesIn t)) (groups t) (k .state) (omega arith) in
-      let c = length-fresh s (λ g i. lineOf t J g i .first) (pos 0) (elements (tablesIn t)) (groups t) (k .first) (omega arith) in
-      let d = length-fresh s (λ g i. lineOf t J g i .second) (pos 0) (elements (tablesIn t)) (groups t) (k .second) (omega arith) in
+      let a = length-fresh s (λ g i. lineOf (tablesIn t) J g i .raw) (pos 0) (elements (tablesIn t)) (groups t) (k .raw) (omega arith) in
+      let b = length-fresh s (λ g i. lineOf (tablesIn t) J g i .state) 0 (elements (tablesIn t)) (groups t) (k .state) (omega arith) in
+      let c = length-fresh s (λ g i. lineOf (tablesIn t) J g i .first) (pos 0) (elements (tablesIn t)) (groups t) (k .first) (omega arith) in
+      let d = length-fresh s (λ g i. lineOf (tablesIn t) J g i .second) (pos 0) (elements (tablesIn t)) (groups t) (k .second) (omega arith) in
       rw (a, b, c, d)
 
   pub image-refreshed : refreshed s t J k .image ≡ J
@@ -135,8 +135,8 @@ module _ (t : List ℕ) (k : Kept) where
   pub start-anew : Anew (remade t k)
   start-anew = record { image = k .image; long = refl; anew = refl }
 
-  pub writer-anew : (c : Kept) → Anew c → (J : List ℕ) (lo hi : ℕ) → SameOutside (c .image) J lo hi → Anew (refreshed (touched t lo hi) t J c)
+  pub writer-anew : (c : Kept) → Anew c → (J : List ℕ) (lo hi : ℕ) → SameOutside (c .image) J lo hi → Anew (refreshed (touched (tablesIn t) lo hi) t J c)
   writer-anew c a J lo hi =
-      subst (λ (y : Kept). SameOutside (y .image) J lo hi → Anew (refreshed (touched t lo hi) t J y)) (sym (a .anew))
+      subst (λ (y : Kept). SameOutside (y .image) J lo hi → Anew (refreshed (touched (tablesIn t) lo hi) t J y)) (sym (a .anew))
       (λ s. let o : SameOutside (a .image) J lo hi = subst (λ (y : List ℕ). SameOutside y J lo hi) (image-made t (withImage (a .image) k)) s in
       record { image = J; long = sym (o .long) ∙ a .long; anew = writer-remade t (a .image) J lo hi o k })

@@ -203,7 +203,7 @@ module _ (t : List ℕ) (g i : ℕ) where
     unfolding stored
     bits-stored h = cell-laws.bits-kept (first (tablesIn t) g) low (shapeOf (kind (tablesIn t) g)) (mask (tablesIn t) g) z image (bytes-le (kind (tablesIn t) g)) within b h
 
-    pub raw-stored : fitsRaw (shapeOf (kind (tablesIn t) g)) (mask (tablesIn t) g) z ≡ true → high ≤ length image → rawIn t (stored t g i image z) g i ≡ z
+    pub raw-stored : fitsRaw (shapeOf (kind (tablesIn t) g)) (mask (tablesIn t) g) z ≡ true → high ≤ length image → rawIn (tablesIn t) (stored t g i image z) g i ≡ z
     unfolding stored rawIn
     raw-stored f l = cell-laws.read-back (first (tablesIn t) g) low (shapeOf (kind (tablesIn t) g)) (mask (tablesIn t) g) z image (bytes-le (kind (tablesIn t) g)) within b f l
 
@@ -221,14 +221,14 @@ module _ (t : List ℕ) (g i : ℕ) where
   write-remade k z = writer-remade t (k .image) (stored t g i (k .image) z) low high (element-outside (k .image) z) k
 
   -- a line whose element shares no byte, and what stands past the lines, stay
-  pub apart-line : (k : Kept) (z : ℤ) (h j : ℕ) → h < groups t → j < elements (tablesIn t) h → touched t low high h j ≡ false
+  pub apart-line : (k : Kept) (z : ℤ) (h j : ℕ) → h < groups t → j < elements (tablesIn t) h → touched (tablesIn t) low high h j ≡ false
       → lineAt (writtenTo t g i k z) (sumBelow h (elements (tablesIn t)) + j) ≡ lineAt k (sumBelow h (elements (tablesIn t)) + j)
   unfolding writtenTo
-  apart-line k z = line-kept (touched t low high) t (stored t g i (k .image) z) k
+  apart-line k z = line-kept (touched (tablesIn t) low high) t (stored t g i (k .image) z) k
 
   pub past-line : (k : Kept) (z : ℤ) (j : ℕ) → sumBelow (groups t) (elements (tablesIn t)) ≤ j → lineAt (writtenTo t g i k z) j ≡ lineAt k j
   unfolding writtenTo
-  past-line k z = rest-kept (touched t low high) t (stored t g i (k .image) z) k
+  past-line k z = rest-kept (touched (tablesIn t) low high) t (stored t g i (k .image) z) k
 
 -- what is kept stays the list made anew, whether the request is refused or carried out
 pub write-anew : (t : List ℕ) (n base : ℕ) (k c : Kept) → Anew t k c → (q : Request) → Anew t k (writing t n base c q .left)

@@ -25,7 +25,7 @@ pub share-is : (lo many p w : ℕ) (a b : Bool) → a ≡ ltb p (lo + many) → 
 unfolding shares
 share-is lo many p w a b e f = rw (e, f)
 
-pub touch-is : (t : List ℕ) (lo hi g i p w : ℕ) (b : Bool) → p ≡ placeOf (tablesIn t) g i → w ≡ bytes (tablesIn t) g → b ≡ shares lo hi p w → b ≡ touched t lo hi g i
+pub touch-is : (t : List ℕ) (lo hi g i p w : ℕ) (b : Bool) → p ≡ placeOf (tablesIn t) g i → w ≡ bytes (tablesIn t) g → b ≡ shares lo hi p w → b ≡ touched (tablesIn t) lo hi g i
 unfolding touched
 touch-is t lo hi g i p w b e f h = h ∙ rw (e, f)
 

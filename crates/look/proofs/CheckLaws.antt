@@ -118,11 +118,11 @@ module _ (t : List ℕ) (o p i : ℕ) where
 pub ruleset named-elements = (no-object, no-part, by-index, needs)
 
 -- ---- reading
-pub reads : (t image : List ℕ) (g i : ℕ) (z y : ℤ) (p : Physical) (s : Shown) → z ≡ rawIn t image g i → y ≡ z → p ≡ held (means t g y) → toldShown s ≡ shown (meant p)
-    → toldRead (read.Element z p s) ≡ given (readingOf t g (rawIn t image g i))
+pub reads : (t image : List ℕ) (g i : ℕ) (z y : ℤ) (p : Physical) (s : Shown) → z ≡ rawIn (tablesIn t) image g i → y ≡ z → p ≡ held (means (tablesIn t) g y) → toldShown s ≡ shown (meant p)
+    → toldRead (read.Element z p s) ≡ given (readingOf (tablesIn t) g (rawIn (tablesIn t) image g i))
 reads t image g i z y p s a b c d =
-    let e : p ≡ held (means t g (rawIn t image g i)) = c ∙ rw (b, a) in
-    let f : toldShown s ≡ shown (means t g (rawIn t image g i)) = d ∙ ap shown (ap meant e ∙ meant-held (means t g (rawIn t image g i))) in
+    let e : p ≡ held (means (tablesIn t) g (rawIn (tablesIn t) image g i)) = c ∙ rw (b, a) in
+    let f : toldShown s ≡ shown (means (tablesIn t) g (rawIn (tablesIn t) image g i)) = d ∙ ap shown (ap meant e ∙ meant-held (means (tablesIn t) g (rawIn (tablesIn t) image g i))) in
     rw (f, e, a)
 
 module _ (t image : List ℕ) (l : Lent) (o p i : ℕ) (r : ℕ) (q : r ≡ checkedNo t l true) where
@@ -135,9 +135,9 @@ module _ (t image : List ℕ) (l : Lent) (o p i : ℕ) (r : ℕ) (q : r ≡ chec
     unfolding reading
     read-none k = rw (← e, k) (checked-passed t l true r q (refused 14) h)
 
-    pub read-is : (g : ℕ) (a : ReadAnswer) → b ≡ true → g ≡ min (groupOf o p) pastRecords → toldRead a ≡ given (readingOf t g (rawIn t image g i)) → toldRead a ≡ reading t image l o p i
+    pub read-is : (g : ℕ) (a : ReadAnswer) → b ≡ true → g ≡ min (groupOf o p) pastRecords → toldRead a ≡ given (readingOf (tablesIn t) g (rawIn (tablesIn t) image g i)) → toldRead a ≡ reading t image l o p i
     unfolding reading
     read-is g a k f w =
-        w ∙ rw (group-is t o p i b g e k f, ← e, k) (checked-passed t l true r q (given (readingOf t (groupOf o p) (rawIn t image (groupOf o p) i))) h)
+        w ∙ rw (group-is t o p i b g e k f, ← e, k) (checked-passed t l true r q (given (readingOf (tablesIn t) (groupOf o p) (rawIn (tablesIn t) image (groupOf o p) i))) h)
 
 pub ruleset readings = (reads, read-refused, read-none, read-is, needs)

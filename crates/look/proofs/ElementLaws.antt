@@ -2,19 +2,20 @@
 use mathlib.Core.Path.{_≡_, refl, sym, _∙_}
 use mathlib.Core.List.{List}
 use mathlib.Core.Bool.{Bool, true, false}
-use Prim.Native.Nat.{ℕ, _+_, _*_, _-_, _≤_, min}
+use Prim.Native.Nat.{ℕ, zero, suc, _≤_, min}
 use native.Mathlib.Omega.{arith}
-use borrow.Author.Needs.{needs}
 use borrow.Author.Tests.{le-ltb}
 use lib.Dec.{ltb}
 use lib.IntN.{ℤ}
-use Rattle.convert.specs.Verbal.{verbalOf}
+use Rattle.number.specs.Most.{mostEntries}
+use Rattle.convert.specs.Verbal.{entriesFrom, verbalOf}
 use Rattle.convert.specs.Told.{held}
 use Rattle.convert.specs.declared.fraction.Physical.{Physical}
 use Rattle.records.specs.Records.{mostOf}
 use Rattle.records.specs.Cells.{sectionIn, slotIn}
-use Rattle.tables.specs.Form.{tableSections, methodSection, tableSection, tablesIn, coefficients}
-use Rattle.look.specs.Element.{pastRecords, lastEntry, entryCell, textAt, means, rawIn, lineWith, lineOf}
+use Rattle.records.specs.declared.Section.{Section}
+use Rattle.tables.specs.Form.{tableSections, methodSection, tableSection, entrySection, tablesIn, coefficients}
+use Rattle.look.specs.Element.{pastRecords, textAt, means, rawIn, lineWith, lineOf}
 use Rattle.look.specs.declared.element.Line.{Line}
 
 -- ---- a record's number that is too large for any record
@@ -41,6 +42,10 @@ few-tables : mostOf tableSections tableSection ≤ pastRecords
 unfolding tableSections
 few-tables = omega arith
 
+entry-far : (t : List ℕ) (i k : ℕ) → mostEntries ≤ i → tablesIn t .slots entrySection i k ≡ 0
+unfolding slotIn tableSections
+entry-far t i k h = rw (le-ltb i mostEntries h)
+
 pub method-slot : (t : List ℕ) (k n : ℕ) → tablesIn t .slots methodSection (min n pastRecords) k ≡ tablesIn t .slots methodSection n k
 method-slot t k n = near-slot t methodSection k few-methods n
 
@@ -51,26 +56,35 @@ pub near-coefficients : (t : List ℕ) (n : ℕ) → coefficients (tablesIn t) (
 near-coefficients t n =
     rw (method-slot t 1 n, method-slot t 2 n, method-slot t 3 n, method-slot t 4 n, method-slot t 5 n, method-slot t 6 n, method-slot t 7 n, method-slot t 8 n)
 
-pub near-text : (t : List ℕ) (n : ℕ) (z : ℤ) → textAt t (min n pastRecords) z ≡ textAt t n z
+pub near-text : (t : List ℕ) (n : ℕ) (z : ℤ) → textAt (tablesIn t) (min n pastRecords) z ≡ textAt (tablesIn t) n z
 unfolding textAt
 near-text t n z = rw (table-slot t 0 n, table-slot t 1 n, table-slot t 2 n, table-slot t 3 n)
 
 -- ---- what a raw number means
-pub entry-at : (n e : ℕ) → e ≡ min n lastEntry → 32521 + 4 * e ≡ entryCell (min n lastEntry)
-unfolding tableSections
-entry-at n e p = omega arith
+
+-- past the section every entry is the same
+entries-far : (t : List ℕ) (e d n : ℕ) → mostEntries ≤ e → mostEntries ≤ d → entriesFrom (tablesIn t .slots entrySection) e n ≡ entriesFrom (tablesIn t .slots entrySection) d n
+unfolding entriesFrom
+entries-far t e d zero h l = refl
+entries-far t e d (suc n) h l =
+    let at : (i k : ℕ) → mostEntries ≤ i → tablesIn t .slots entrySection i k ≡ 0 = λ i k m. entry-far t i k m in
+    rw (at e 0 h, at e 1 h, at e 2 h, at e 3 h, at d 0 l, at d 1 l, at d 2 l, at d 3 l, entries-far t (suc e) (suc d) n (omega arith) (omega arith))
+
+pub near-entries : (t : List ℕ) (e n : ℕ) → entriesFrom (tablesIn t .slots entrySection) (min e mostEntries) n ≡ entriesFrom (tablesIn t .slots entrySection) e n
+near-entries t e n = by-test (ltb e mostEntries) refl where
+  by-test : (b : Bool) → ltb e mostEntries ≡ b → entriesFrom (tablesIn t .slots entrySection) (min e mostEntries) n ≡ entriesFrom (tablesIn t .slots entrySection) e n
+  by-test true q = let z : min e mostEntries ≡ e = omega (arith, borrow.Author.Tests.ltb-true e mostEntries q) in rw z
+  by-test false q = let h = borrow.Author.Tests.ltb-false e mostEntries q in entries-far t (min e mostEntries) e n (omega arith) (omega arith)
 
 module _ (t : List ℕ) (z : ℤ) where
-  pub text-is : (s a b c d at many : ℕ) (y : ℤ) (r : Physical) → r ≡ held (verbalOf t at many c d y) → y ≡ z → at ≡ entryCell (min a lastEntry) → many ≡ min b lastEntry
-      → a ≡ tablesIn t .slots tableSection s 0 → b ≡ tablesIn t .slots tableSection s 1 → c ≡ tablesIn t .slots tableSection s 2 → d ≡ tablesIn t .slots tableSection s 3
-      → r ≡ held (textAt t s z)
-  unfolding textAt
-  text-is s a b c d at many y r g h e f pa pb pc pd = g ∙ rw (h, e, f, pa, pb, pc, pd)
+  pub text-is : (s a b c d from many : ℕ) (j : Section) (y : ℤ) (r : Physical) → r ≡ held (verbalOf (slotIn t j) from many c d y) → y ≡ z → j ≡ sectionIn tableSections entrySection
+      → from ≡ min a mostEntries → many ≡ min b mostEntries → a ≡ tablesIn t .slots tableSection s 0 → b ≡ tablesIn t .slots tableSection s 1 → c ≡ tablesIn t .slots tableSection s 2
+      → d ≡ tablesIn t .slots tableSection s 3 → r ≡ held (textAt (tablesIn t) s z)
+  unfolding textAt verbalOf
+  text-is s a b c d from many j y r g h q e f pa pb pc pd = g ∙ rw (h, q, e, f, pa, pb, pc, pd, near-entries t (tablesIn t .slots tableSection s 0) (min (tablesIn t .slots tableSection s 1) mostEntries))
 
 -- ---- an element
 module _ (t image : List ℕ) (g i : ℕ) where
-  pub line-is : (z y : ℤ) (p : Physical) (l : Line) → z ≡ rawIn t image g i → y ≡ z → p ≡ held (means t g y) → l ≡ lineWith t z p → l ≡ lineOf t image g i
+  pub line-is : (z y : ℤ) (p : Physical) (l : Line) → z ≡ rawIn (tablesIn t) image g i → y ≡ z → p ≡ held (means (tablesIn t) g y) → l ≡ lineWith z p → l ≡ lineOf (tablesIn t) image g i
   unfolding lineOf
   line-is z y p l a b c d = d ∙ rw (c, b, a)
-
-pub ruleset elements = (entry-at, needs)

@@ -57,7 +57,7 @@ searched-numbers x t l w = checked-numbers t l true [] (given (searchFrom (table
 pub reading-numbers : (t image : List ℕ) (l : Lent) (o p i : ℕ) → RefusedBy (20 ∷ 22 ∷ 14 ∷ []) (reading t image l o p i)
 unfolding reading
 reading-numbers t image l o p i =
-    let r = readingOf t (groupOf o p) (rawIn t image (groupOf o p) i) in
+    let r = readingOf (tablesIn t) (groupOf o p) (rawIn (tablesIn t) image (groupOf o p) i) in
     checked-numbers t l true (14 ∷ []) (unless (isElement (tablesIn t) o p i) 14 (given r)) (unless-numbers (isElement (tablesIn t) o p i) 14 [] (given r) (given-numbers [] r))
 
 pub making-numbers : (t : List ℕ) (n base : ℕ) (k : Kept) → RefusedBy (20 ∷ 22 ∷ []) (making t n base k .answer)

@@ -64,12 +64,12 @@ pub record Reading : Type 0 where
   pub value : Physical
   pub display : Display
 
-abbrev pub readingOf : List ℕ → ℕ → ℤ → Reading
-readingOf t g raw = record { raw = raw; value = held (means t g raw); display = shown (means t g raw) }
+abbrev pub readingOf : Tables → ℕ → ℤ → Reading
+readingOf T g raw = record { raw = raw; value = held (means T g raw); display = shown (means T g raw) }
 
 unfoldable pub reading : List ℕ → List ℕ → Lent → ℕ → ℕ → ℕ → Answer Reading
 reading t image l o p i =
-    checked t l true (unless (isElement (tablesIn t) o p i) 14 (given (readingOf t (groupOf o p) (rawIn t image (groupOf o p) i))))
+    checked t l true (unless (isElement (tablesIn t) o p i) 14 (given (readingOf (tablesIn t) (groupOf o p) (rawIn (tablesIn t) image (groupOf o p) i))))
 
 -- ---- the list
 
@@ -98,20 +98,20 @@ groups t = tablesIn t .counts groupSection
 unfoldable pub remade : List ℕ → Kept → Kept
 remade t k = record {
   image = k .image;
-  raw = made (λ g i. lineOf t (k .image) g i .raw) (elements (tablesIn t)) (groups t) (k .raw);
-  state = made (λ g i. lineOf t (k .image) g i .state) (elements (tablesIn t)) (groups t) (k .state);
-  first = made (λ g i. lineOf t (k .image) g i .first) (elements (tablesIn t)) (groups t) (k .first);
-  second = made (λ g i. lineOf t (k .image) g i .second) (elements (tablesIn t)) (groups t) (k .second);
+  raw = made (λ g i. lineOf (tablesIn t) (k .image) g i .raw) (elements (tablesIn t)) (groups t) (k .raw);
+  state = made (λ g i. lineOf (tablesIn t) (k .image) g i .state) (elements (tablesIn t)) (groups t) (k .state);
+  first = made (λ g i. lineOf (tablesIn t) (k .image) g i .first) (elements (tablesIn t)) (groups t) (k .first);
+  second = made (λ g i. lineOf (tablesIn t) (k .image) g i .second) (elements (tablesIn t)) (groups t) (k .second);
 }
 
 -- with another image, the lines that s picks worked out afresh from it
 unfoldable pub refreshed : (ℕ → ℕ → Bool) → List ℕ → List ℕ → Kept → Kept
 refreshed s t img k = record {
   image = img;
-  raw = fresh s (λ g i. lineOf t img g i .raw) (pos 0) (elements (tablesIn t)) (groups t) (k .raw);
-  state = fresh s (λ g i. lineOf t img g i .state) 0 (elements (tablesIn t)) (groups t) (k .state);
-  first = fresh s (λ g i. lineOf t img g i .first) (pos 0) (elements (tablesIn t)) (groups t) (k .first);
-  second = fresh s (λ g i. lineOf t img g i .second) (pos 0) (elements (tablesIn t)) (groups t) (k .second);
+  raw = fresh s (λ g i. lineOf (tablesIn t) img g i .raw) (pos 0) (elements (tablesIn t)) (groups t) (k .raw);
+  state = fresh s (λ g i. lineOf (tablesIn t) img g i .state) 0 (elements (tablesIn t)) (groups t) (k .state);
+  first = fresh s (λ g i. lineOf (tablesIn t) img g i .first) (pos 0) (elements (tablesIn t)) (groups t) (k .first);
+  second = fresh s (λ g i. lineOf (tablesIn t) img g i .second) (pos 0) (elements (tablesIn t)) (groups t) (k .second);
 }
 
 -- what a call answers, and what is kept after it: "No refusal touches image or list."
@@ -192,7 +192,7 @@ stored t g i image z = written (first (tablesIn t) g) (placeOf (tablesIn t) g i)
 -- "An accepted write works out afresh every line that shares a byte with the element, whatever those lines held, and no other."
 unfoldable pub writtenTo : List ℕ → ℕ → ℕ → Kept → ℤ → Kept
 writtenTo t g i k z =
-    refreshed (touched t (placeOf (tablesIn t) g i) (placeOf (tablesIn t) g i + bytes (tablesIn t) g)) t (stored t g i (k .image) z) k
+    refreshed (touched (tablesIn t) (placeOf (tablesIn t) g i) (placeOf (tablesIn t) g i + bytes (tablesIn t) g)) t (stored t g i (k .image) z) k
 
 unfoldable pub writing : List ℕ → ℕ → ℕ → Kept → Request → After
 writing t n base k q = afterwards (judgedRequest t (lentBy n base k) (hasRoom t k) q) k (writtenTo t (groupIn q) (q .index) k)

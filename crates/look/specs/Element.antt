@@ -1,5 +1,5 @@
 -- One element: its raw number, what it means, its line.
-use Prim.Native.Nat.{ℕ, _+_, _-_, _*_, min}
+use Prim.Native.Nat.{ℕ, _+_, _-_, min}
 use mathlib.Core.List.{List}
 use mathlib.Core.Bool.{Bool, cond, _&&_}
 use lib.Dec.{ltb, eqb}
@@ -12,50 +12,42 @@ use Rattle.convert.specs.Method.{identicalOf}
 use Rattle.convert.specs.Verbal.{verbalOf}
 use Rattle.convert.specs.Told.{held}
 use Rattle.convert.specs.declared.fraction.Physical.{Physical}
-use Rattle.records.specs.Cells.{baseIn}
-use Rattle.tables.specs.Form.{tableSections, methodSection, tableSection, entrySection, tablesIn, kind, first, methodOf, mask, coefficients}
+use Rattle.tables.specs.Form.{methodSection, tableSection, entrySection, Tables, kind, first, methodOf, mask, coefficients}
 use Rattle.tables.specs.Group.{bytes, placeOf}
 use Rattle.tables.specs.Rule.{isVerbal}
 use Rattle.look.specs.declared.element.Line.{Line}
 
+-- "A line holds raw, state (0 none, 1 number, 2 text), and the fraction's two numbers, or the text's first byte and the one past it, quotes included; zeros for none."
+abbrev pub lineWith : ℤ → Physical → Line
+lineWith raw p = record { raw = raw; state = p .state; first = p .first; second = p .second }
+
 -- ---- what a raw number of group g means. A method's number has one added, 0 is NO_COMPU_METHOD
 
--- numbers past every capacity read as these
+-- numbers past every capacity read as this
 abbrev pub pastRecords : ℕ
 pastRecords = 65535
 
-abbrev pub lastEntry : ℕ
-lastEntry = mostEntries
-
--- the cell where entry e begins
-abbrev pub entryCell : ℕ → ℕ
-entryCell e = baseIn tableSections entrySection + (1 + 4 * e)
-
-module _ (t : List ℕ) where
-  -- the text that verbal table s gives (numbers past every capacity read as the capacity)
+module _ (T : Tables) where
+  -- the text that verbal table s gives (no table has more entries than all may have)
   unfoldable pub textAt : ℕ → ℤ → Value
   textAt s raw =
-      verbalOf t (entryCell (min (tablesIn t .slots tableSection s 0) lastEntry)) (min (tablesIn t .slots tableSection s 1) lastEntry) (tablesIn t .slots tableSection s 2) (tablesIn t .slots tableSection s 3) raw
+      verbalOf (T .slots entrySection) (T .slots tableSection s 0) (min (T .slots tableSection s 1) mostEntries) (T .slots tableSection s 2) (T .slots tableSection s 3) raw
 
   -- method m: "TAB_VERB: the entry with that number gives its text", the others a fraction
   unfoldable pub meansBy : ℕ → ℤ → Value
   meansBy m raw =
-      cond (isVerbal (tablesIn t .slots methodSection m 0)) (textAt (tablesIn t .slots methodSection m 9 - 1) raw)
-      (fractionOf (coefficients (tablesIn t) m) raw)
+      cond (isVerbal (T .slots methodSection m 0)) (textAt (T .slots methodSection m 9 - 1) raw)
+      (fractionOf (coefficients T m) raw)
 
   -- "IDENTICAL and NO_COMPU_METHOD are 1, 0, 0, 1."
   unfoldable pub means : ℕ → ℤ → Value
-  means g raw = cond (eqb (methodOf (tablesIn t) g) 0) (fractionOf identicalOf raw) (meansBy (methodOf (tablesIn t) g - 1) raw)
+  means g raw = cond (eqb (methodOf T g) 0) (fractionOf identicalOf raw) (meansBy (methodOf T g - 1) raw)
 
   -- ---- the element of group g with index i, in an image
 
   unfoldable pub rawIn : List ℕ → ℕ → ℕ → ℤ
   rawIn image g i =
-      rawAt (first (tablesIn t) g) (placeOf (tablesIn t) g i) (shapeOf (kind (tablesIn t) g)) (mask (tablesIn t) g) image
-
-  -- "A line holds raw, state (0 none, 1 number, 2 text), and the fraction's two numbers, or the text's first byte and the one past it, quotes included; zeros for none."
-  abbrev pub lineWith : ℤ → Physical → Line
-  lineWith raw p = record { raw = raw; state = p .state; first = p .first; second = p .second }
+      rawAt (first T g) (placeOf T g i) (shapeOf (kind T g)) (mask T g) image
 
   unfoldable pub lineOf : List ℕ → ℕ → ℕ → Line
   lineOf image g i = lineWith (rawIn image g i) (held (means g (rawIn image g i)))
@@ -66,7 +58,7 @@ module _ (t : List ℕ) where
 unfoldable pub shares : ℕ → ℕ → ℕ → ℕ → Bool
 shares lo hi p many = ltb p hi && ltb lo (p + many)
 
-module _ (t : List ℕ) (lo hi : ℕ) where
+module _ (T : Tables) (lo hi : ℕ) where
   -- element i of group g has one of the bytes from lo up to hi
   unfoldable pub touched : ℕ → ℕ → Bool
-  touched g i = shares lo hi (placeOf (tablesIn t) g i) (bytes (tablesIn t) g)
+  touched g i = shares lo hi (placeOf T g i) (bytes T g)

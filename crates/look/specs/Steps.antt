@@ -41,7 +41,7 @@ meaningOf t g = record {
 -- ---- a line at a time
 -- the lines that are worked out afresh: all of them, or those of elements with one of the bytes from lo up to hi
 abbrev pub picked : List ℕ → ℕ → ℕ → Bool → ℕ → ℕ → Bool
-picked t lo hi all g i = all || touched t lo hi g i
+picked t lo hi all g i = all || touched (tablesIn t) lo hi g i
 
 -- line k worked out afresh as l where p says so
 abbrev pub putLine : Bool → ℕ → Line → Kept → Kept
@@ -56,4 +56,4 @@ putLine p k l c = record {
 -- the first so many lines of group g, which begin at line k, worked out afresh where s says so
 abbrev pub putLines : (ℕ → ℕ → Bool) → List ℕ → List ℕ → ℕ → ℕ → ℕ → Kept → Kept
 putLines s t img g k zero c = c
-putLines s t img g k (suc i) c = putLine (s g i) (k + i) (lineOf t img g i) (putLines s t img g k i c)
+putLines s t img g k (suc i) c = putLine (s g i) (k + i) (lineOf (tablesIn t) img g i) (putLines s t img g k i c)

@@ -4,6 +4,7 @@ use tables::group::place_of;
 ghost use mathlib.Core.Path.{_≡_};
 ghost use Prim.Native.Nat.{_+_};
 ghost use lib.Dec.{ltb};
+ghost use Rattle.tables.specs.Form.{tablesIn};
 ghost use Rattle.look.specs.Element.{shares, touched};
 
 // Whether a place is below the end of so many bytes.
@@ -25,7 +26,7 @@ pub fn share(lo: u64, many: u64, p: u64, w: u64) -> bool
 
 // Whether an element has one of so many bytes from a place on.
 pub fn touches(t: &[u64], lo: u64, many: u64, g: u16, i: u32) -> bool
-    ensures { λ r. ⌜ r ≡ touched (now (t .entry)) lo (lo + many) g i ⌝ }
+    ensures { λ r. ⌜ r ≡ touched (tablesIn (now (t .entry))) lo (lo + many) g i ⌝ }
 {
     share(lo, many, place_of(t, g, i), bytes_of(t, g) as u64)
 }

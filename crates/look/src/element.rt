@@ -1,7 +1,9 @@
 // One element: its raw number, and the texts of verbal tables.
 use cell::raw::read_raw;
 use convert::fraction::Physical;
+use tables::form::ENTRY;
 use tables::form::TABLE;
+use tables::form::section_of;
 use tables::form::slot_of;
 use tables::group::Storage;
 use tables::group::place_by;
@@ -9,11 +11,13 @@ use tables::group::storage_of;
 use verbal::text::text_of;
 ghost use mathlib.Core.Path.{_≡_};
 ghost use Prim.Native.Nat.{_-_, min};
+ghost use Rattle.number.specs.Most.{mostEntries};
 ghost use Rattle.convert.specs.Told.{held};
 ghost use Rattle.cell.specs.Kind.{shapeOf};
 ghost use Rattle.cell.specs.Raw.{rawAt};
+ghost use Rattle.tables.specs.Form.{tablesIn};
 ghost use Rattle.tables.specs.Group.{reachable, placeBy};
-ghost use Rattle.look.specs.Element.{pastRecords, lastEntry, entryCell, textAt, rawIn};
+ghost use Rattle.look.specs.Element.{pastRecords, textAt, rawIn};
 
 // A line of the list: the raw number, the state (0 none, 1 number, 2 text), and its two numbers or places.
 pub struct Line {
@@ -23,10 +27,8 @@ pub struct Line {
     pub second: i64,
 }
 
-// The most entries of all verbal tables, and the cell of the first.
-const LAST_ENTRY: u64 = 1024;
-
-const FIRST_ENTRY: usize = 32521;
+// The most entries of all verbal tables.
+const MOST_ENTRIES: u64 = 1024;
 
 // No section has this many records.
 const PAST_RECORDS: u64 = 65535;
@@ -53,32 +55,33 @@ pub fn record_before(n: u64) -> u16
 }
 
 // A number of entries, at most those of all tables.
-fn entries(n: u64) -> usize
-    ensures { λ r. ⌜ r ≡ min n lastEntry ⌝ }
+fn entries(n: u64) -> u16
+    ensures { λ r. ⌜ r ≡ min n mostEntries ⌝ }
 {
-    if n < LAST_ENTRY {
-        n as usize
+    if n < MOST_ENTRIES {
+        n as u16
     } else {
-        LAST_ENTRY as usize
+        MOST_ENTRIES as u16
     }
-}
-
-// The cell where an entry begins.
-fn entry_cell(n: u64) -> usize
-    ensures { λ r. ⌜ r ≡ entryCell (min n lastEntry) ⌝ }
-{
-    FIRST_ENTRY + 4 * entries(n)
 }
 
 // The text that a verbal table gives.
 pub fn text_at(t: &[u64], s: u16, raw: i64) -> Physical
-    ensures { λ r. ⌜ r ≡ held (textAt (now (t .entry)) s raw) ⌝ }
+    ensures { λ r. ⌜ r ≡ held (textAt (tablesIn (now (t .entry))) s raw) ⌝ }
 {
     let from = slot_of(t, TABLE, s, 0);
     let many = slot_of(t, TABLE, s, 1);
     let first = slot_of(t, TABLE, s, 2);
     let past = slot_of(t, TABLE, s, 3);
-    text_of(t, entry_cell(from), entries(many), first, past, raw)
+    text_of(
+        t,
+        section_of(ENTRY),
+        entries(from),
+        entries(many),
+        first,
+        past,
+        raw,
+    )
 }
 
 // The raw number of element i of what is stored so.
@@ -92,7 +95,7 @@ pub fn raw_by(image: &[u8], s: Storage, i: u64) -> i64
 
 // The raw number of an element.
 pub fn raw_of(t: &[u64], image: &[u8], g: u16, i: u32) -> i64
-    ensures { λ r. ⌜ r ≡ rawIn (now (t .entry)) (now (image .entry)) g i ⌝ }
+    ensures { λ r. ⌜ r ≡ rawIn (tablesIn (now (t .entry))) (now (image .entry)) g i ⌝ }
 {
     raw_by(image, storage_of(t, g), i as u64)
 }

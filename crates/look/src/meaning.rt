@@ -46,7 +46,7 @@ pub fn meaning_of(t: &[u64], g: u16) -> Meaning
 
 // What a raw number means by a verbal table or by coefficients.
 fn means_by(t: &[u64], m: Meaning, raw: i64) -> Physical
-    ensures { λ r. ⌜ r ≡ held (cond (m .verbal) (textAt (now (t .entry)) (m .table) raw) (fractionOf (m .k) raw)) ⌝ }
+    ensures { λ r. ⌜ r ≡ held (cond (m .verbal) (textAt (tablesIn (now (t .entry))) (m .table) raw) (fractionOf (m .k) raw)) ⌝ }
 {
     if m.verbal {
         return text_at(t, m.table, raw);
@@ -56,7 +56,7 @@ fn means_by(t: &[u64], m: Meaning, raw: i64) -> Physical
 
 // What a raw number of a group means.
 pub fn means(t: &[u64], g: u16, raw: i64) -> Physical
-    ensures { λ r. ⌜ r ≡ held (means (now (t .entry)) g raw) ⌝ }
+    ensures { λ r. ⌜ r ≡ held (means (tablesIn (now (t .entry))) g raw) ⌝ }
 {
     means_by(t, meaning_of(t, g), raw)
 }
@@ -76,7 +76,7 @@ fn line_with(raw: i64, p: Physical) -> Line
 // The line of element i of a group, of which is known how it is stored and what its raw numbers mean by.
 pub fn line_by(t: &[u64], image: &[u8], s: Storage, m: Meaning, i: u64) -> Line
     requires { ⌜ reachable s i ⌝ }
-    ensures { λ r. ⌜ ((g : ℕ) → s ≡ storageOf (tablesIn (now (t .entry))) g → m ≡ meaningOf (now (t .entry)) g → r ≡ lineOf (now (t .entry)) (now (image .entry)) g i) ⌝ }
+    ensures { λ r. ⌜ ((g : ℕ) → s ≡ storageOf (tablesIn (now (t .entry))) g → m ≡ meaningOf (now (t .entry)) g → r ≡ lineOf (tablesIn (now (t .entry))) (now (image .entry)) g i) ⌝ }
 {
     let raw = raw_by(image, s, i);
     line_with(raw, means_by(t, m, raw))

@@ -11,6 +11,7 @@ use fraction::fraction::shown_of;
 ghost use mathlib.Core.Path.{_≡_};
 ghost use lib.ListN.{length};
 ghost use Rattle.number.specs.Answer.{given};
+ghost use Rattle.tables.specs.Form.{tablesIn};
 ghost use Rattle.look.specs.Element.{rawIn};
 ghost use Rattle.look.specs.Calls.{lentOf, readingOf, reading};
 ghost use Rattle.look.specs.Told.{toldRead};
@@ -29,7 +30,7 @@ pub enum ReadAnswer {
 
 // What stands in an element.
 fn reading_of(t: &[u64], image: &[u8], g: u16, i: u32) -> ReadAnswer
-    ensures { λ r. ⌜ toldRead r ≡ given (readingOf (now (t .entry)) g (rawIn (now (t .entry)) (now (image .entry)) g i)) ⌝ }
+    ensures { λ r. ⌜ toldRead r ≡ given (readingOf (tablesIn (now (t .entry))) g (rawIn (tablesIn (now (t .entry))) (now (image .entry)) g i)) ⌝ }
 {
     let raw = raw_of(t, image, g, i);
     let physical = means(t, g, raw);

@@ -9,7 +9,7 @@ use Rattle.verbal.proofs.text.entry_text.Statement.{statement}
 use Rattle.verbal.proofs.text.entry_text.Tie as tie
 
 returns : tie.Need-returns
-returns c = c .text-between .ensures ∙ ap₂ (λ (a b : ℕ). held (text (placeIn a) (placeIn b))) (c .before .before .cell-at .ensures) (c .before .cell-at2 .ensures)
+returns c = c .text-between .ensures ∙ ap₂ (λ (a b : ℕ). held (text (placeIn a) (placeIn b))) (c .before .before .slot .ensures) (c .before .slot2 .ensures)
 
 pub entry-text-spec : {M : Type 1} → statement M
 entry-text-spec =

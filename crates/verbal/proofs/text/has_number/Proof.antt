@@ -14,7 +14,7 @@ raw-is : (a : tie.Start) → Is (back (a .args .raw)) (a .args .raw) (natAbs (a 
 raw-is a = is-param (a .fits .raw)
 
 returns : tie.Need-returns
-returns c = c .is-number .ensures ∙ (λ i. eqZ (signedOf (not (eqb (c .before .before .cell-at .ensures i) 0)) (c .before .cell-at2 .ensures i)) (raw-is (c .before .before .before .before) .same i))
+returns c = c .is-number .ensures ∙ (λ i. eqZ (signedOf (not (eqb (c .before .before .slot .ensures i) 0)) (c .before .slot2 .ensures i)) (raw-is (c .before .before .before .before) .same i))
 
 pub has-number-spec : {M : Type 1} → statement M
 has-number-spec =

@@ -17,6 +17,7 @@ use Rattle.grammar.specs.Move.{View, decimalSlots}
 use Rattle.grammar.specs.Parameter.{find}
 use Rattle.methods.specs.Methods.{coefficients}
 use Rattle.place.specs.declared.order.Entry.{Entry}
+use Rattle.tables.specs.Form.{groupWidth}
 use Rattle.objects.specs.Object.{layoutNumber, layoutOf, firstOf, axisAt, needOf, placesOf}
 use Rattle.build.specs.declared.part.Source.{Source}
 use Rattle.build.specs.declared.part.Known.{Known}
@@ -72,21 +73,21 @@ forbids v s forbidden = flag (forbidden || not (eqb (v .slots (s .sec) (s .numbe
 unfoldable pub limitCells : View → Source → List ℕ
 limitCells v s = decimalCells (decimalSlots v (s .sec) (s .number) (s .lower)) ++ decimalCells (decimalSlots v (s .sec) (s .number) (s .upper))
 
--- method, mask, writing forbidden, lower and upper limit: cells 8 to 16
+-- method, mask, writing forbidden, lower and upper limit: from methodCell on
 unfoldable pub meaning : List ℕ → View → Source → ℕ → Bool → List ℕ
 meaning x v s mask forbidden = methodIn x v s ∷ mask ∷ forbids v s forbidden ∷ limitCells v s
 
--- data type, byte order, place in the image, points in x and y, room in x and y, walk: cells 0 to 7. Packed layouts hold equal numbers.
+-- data type, byte order, place in the image, points in x and y, room in x and y, walk: from kindCell on. Packed layouts hold equal numbers.
 abbrev pub standingCells : ℕ → Bool → ℕ → ℕ → ℕ → ℕ → List ℕ
 standingCells kind first place cx cy walk = kind ∷ flag first ∷ place ∷ cx ∷ cy ∷ cx ∷ cy ∷ walk ∷ []
 
--- a stored count's data type and place: cells 17 and 18
+-- a stored count's data type and place: from counterCell on
 abbrev pub counterCells : Entry → ℕ → List ℕ
 counterCells e place = cond (e .present) (e .kind) 0 ∷ cond (e .present) place 0 ∷ []
 
 -- a part that the object does not store
 abbrev pub noPartCells : List ℕ
-noPartCells = replicate 19 0
+noPartCells = replicate groupWidth 0
 
 -- "INDEX_DECR stores the axis's last point first"; "COLUMN_DIR: y runs fastest" (index mode has an effect in a MAP only)
 abbrev pub axisWalk : ℕ → ℕ

@@ -48,7 +48,7 @@ fn put_whole(u: &mut [u64], m: u16, k: u8, z: i64)
 
 // The coefficients into method m.
 fn put_coefficients(u: &mut [u64], m: u16, k: Coefficients)
-    ensures { λ _. ⌜ now (u .exit) ≡ putsAt (now (u .entry)) form.methodSection m 1 (coefficientCells k) ⌝ }
+    ensures { λ _. ⌜ now (u .exit) ≡ putsAt (now (u .entry)) form.methodSection m form.bCell (coefficientCells k) ⌝ }
 {
     put_whole(u, m, 1, k.b);
     put_whole(u, m, 3, k.c);

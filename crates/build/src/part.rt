@@ -23,7 +23,7 @@ ghost use Prim.Native.Nat.{_-_};
 ghost use Rattle.number.specs.Told.{scaled};
 ghost use Rattle.grammar.specs.Move.{viewIn};
 ghost use Rattle.grammar.specs.Parameter.{foundAt};
-ghost use Rattle.tables.specs.Form.{groupSection};
+ghost use Rattle.tables.specs.Form.{groupSection, kindCell, methodCell, lowerCell, counterCell};
 ghost use Rattle.build.specs.Build.{flag, methodNumber, methodIn, forbids, decimalCells, limitCells, meaning, standingCells, counterCells, noPartCells};
 ghost use Rattle.build.specs.Row.{putsAt, rowIn};
 
@@ -118,7 +118,7 @@ fn put_decimal(u: &mut [u64], g: u16, k: u8, d: Decimal)
 
 // A source's limits.
 fn put_limits(u: &mut [u64], t: &[u64], g: u16, s: Source)
-    ensures { λ _. ⌜ now (u .exit) ≡ putsAt (now (u .entry)) groupSection g 11 (limitCells (viewIn (now (t .entry))) s) ⌝ }
+    ensures { λ _. ⌜ now (u .exit) ≡ putsAt (now (u .entry)) groupSection g lowerCell (limitCells (viewIn (now (t .entry))) s) ⌝ }
 {
     let lower = decimal_slots(t, s.sec, s.number, s.lower);
     let upper = decimal_slots(t, s.sec, s.number, s.upper);
@@ -128,7 +128,7 @@ fn put_limits(u: &mut [u64], t: &[u64], g: u16, s: Source)
 
 // Method, mask, writing forbidden, and limits.
 fn put_meaning(u: &mut [u64], x: &[u8], t: &[u64], g: u16, s: Source, mask: u64, forbidden: bool)
-    ensures { λ _. ⌜ now (u .exit) ≡ putsAt (now (u .entry)) groupSection g 8 (meaning (now (x .entry)) (viewIn (now (t .entry))) s mask forbidden) ⌝ }
+    ensures { λ _. ⌜ now (u .exit) ≡ putsAt (now (u .entry)) groupSection g methodCell (meaning (now (x .entry)) (viewIn (now (t .entry))) s mask forbidden) ⌝ }
 {
     let method = method_in(x, t, s);
     let only = forbids_in(t, s, forbidden);
@@ -138,7 +138,7 @@ fn put_meaning(u: &mut [u64], x: &[u8], t: &[u64], g: u16, s: Source, mask: u64,
 
 // Where a part stands.
 fn put_standing(u: &mut [u64], g: u16, p: Spot)
-    ensures { λ _. ⌜ now (u .exit) ≡ putsAt (now (u .entry)) groupSection g 0 (standingCells (p .kind) (p .first) (p .place) (p .cx) (p .cy) (p .walk)) ⌝ }
+    ensures { λ _. ⌜ now (u .exit) ≡ putsAt (now (u .entry)) groupSection g kindCell (standingCells (p .kind) (p .first) (p .place) (p .cx) (p .cy) (p .walk)) ⌝ }
 {
     let first = flag_of(p.first);
     let cx = p.cx as u64;
@@ -149,7 +149,7 @@ fn put_standing(u: &mut [u64], g: u16, p: Spot)
 
 // A stored count's data type and place.
 fn put_counter(u: &mut [u64], g: u16, e: Entry, place: u64)
-    ensures { λ _. ⌜ now (u .exit) ≡ putsAt (now (u .entry)) groupSection g 17 (counterCells e place) ⌝ }
+    ensures { λ _. ⌜ now (u .exit) ≡ putsAt (now (u .entry)) groupSection g counterCell (counterCells e place) ⌝ }
 {
     if e.present {
         put_two(u, GROUP, g, 17, e.kind, place);

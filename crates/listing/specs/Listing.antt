@@ -6,7 +6,7 @@ use lib.Dec.{leb}
 use lib.IntN.{ℤ, pos}
 use lib.ListN.{length, getD, drop}
 use Rattle.number.specs.Answer.{Answer, given, refused}
-use Rattle.tables.specs.Form.{objectSection, groupSection, tablesIn}
+use Rattle.tables.specs.Form.{objectSection, groupSection, tablesIn, nameCell, namePastCell}
 use Rattle.number.specs.Below.{sumBelow}
 use Rattle.tables.specs.Group.{groupOf, elements, lineOf}
 use Rattle.look.specs.Calls.{Kept, checked, hasRoom, lentBy, unless, isElement}
@@ -33,7 +33,7 @@ columnsOf k = columns (k .raw) (k .state) (k .first) (k .second)
 module _ (x t : List ℕ) (k : Columns) where
   -- the name of group g's object
   abbrev pub nameOf : ℕ → List ℕ
-  nameOf g = slice x (tablesIn t .slots objectSection (g / 3) 0) (tablesIn t .slots objectSection (g / 3) 1)
+  nameOf g = slice x (tablesIn t .slots objectSection (g / 3) nameCell) (tablesIn t .slots objectSection (g / 3) namePastCell)
 
   -- the printed line of element i of group g, which is line n of the list
   unfoldable pub printedLine : ℕ → ℕ → ℕ → List ℕ

@@ -16,7 +16,7 @@ use Rattle.convert.specs.Told.{held}
 use Rattle.convert.specs.declared.fraction.Physical.{Physical}
 use Rattle.convert.specs.declared.method.Coefficients.{Coefficients}
 use Rattle.text.specs.Bytes.{samePart}
-use Rattle.tables.specs.Form.{objectSection, groupSection, methodSection, Tables, tablesIn, total, kind, first, methodOf, mask, forbidden, counter, counterPlace, limit, coefficients}
+use Rattle.tables.specs.Form.{objectSection, groupSection, methodSection, Tables, tablesIn, nameCell, namePastCell, lowerCell, upperCell, conversionCell, total, kind, first, methodOf, mask, forbidden, counter, counterPlace, limit, coefficients}
 use Rattle.tables.specs.Group.{groupOf, elements, bytes, placeOf}
 use Rattle.tables.specs.Rule.{isVerbal, keepsRule}
 use Rattle.tables.specs.Sizes.{sizesFit}
@@ -51,7 +51,7 @@ isElement T o p i = ltb o (T .counts objectSection) && ltb p 3 && ltb i (element
 -- the first object from i on, of f, that bears the name; its number and one more, 0 for none
 unfoldable pub searchFrom : ℕ → List ℕ → Tables → List ℕ → ℕ → ℕ
 searchFrom zero x T w i = 0
-searchFrom (suc f) x T w i = cond (samePart x (T .slots objectSection i 0) (T .slots objectSection i 1) w 0 (length w)) (suc i) (searchFrom f x T w (suc i))
+searchFrom (suc f) x T w i = cond (samePart x (T .slots objectSection i nameCell) (T .slots objectSection i namePastCell) w 0 (length w)) (suc i) (searchFrom f x T w (suc i))
 
 unfoldable pub searched : List ℕ → List ℕ → Lent → List ℕ → Answer ℕ
 searched x t l w = checked t l true (given (searchFrom (tablesIn t .counts objectSection) x (tablesIn t) w 0))
@@ -164,12 +164,12 @@ asksBy T g = cond (eqb (methodOf T g) 0) identicalOf (coefficients T (methodOf T
 
 -- whether group g has a verbal table
 unfoldable pub isTabVerb : Tables → ℕ → Bool
-isTabVerb T g = not (eqb (methodOf T g) 0) && isVerbal (T .slots methodSection (methodOf T g - 1) 0)
+isTabVerb T g = not (eqb (methodOf T g) 0) && isVerbal (T .slots methodSection (methodOf T g - 1) conversionCell)
 
 -- "Raw writes test type and mask, no limits." "15 .. physical write under TAB_VERB"
 abbrev pub wantedRaw : Tables → ℕ → Wanted → Answer ℤ
 wantedRaw T g (rawNumber z) = unless (fitsRaw (shapeOf (kind T g)) (mask T g) z) 18 (given z)
-wantedRaw T g (physicalText s) = unless (not (isTabVerb T g)) 15 (askedRaw (limit T g 11) (limit T g 14) (asksBy T g) (shapeOf (kind T g)) (mask T g) s)
+wantedRaw T g (physicalText s) = unless (not (isTabVerb T g)) 15 (askedRaw (limit T g lowerCell) (limit T g upperCell) (asksBy T g) (shapeOf (kind T g)) (mask T g) s)
 
 -- "21, 19": element i of group g may be written, and then the answer
 unfoldable pub writable : {A : Type 0} → List ℕ → ℕ → ℕ → Answer A → Answer A

@@ -12,7 +12,7 @@ use Rattle.convert.specs.Method.{identicalOf}
 use Rattle.convert.specs.Verbal.{verbalOf}
 use Rattle.convert.specs.Told.{held}
 use Rattle.convert.specs.declared.fraction.Physical.{Physical}
-use Rattle.tables.specs.Form.{methodSection, tableSection, entrySection, Tables, kind, first, methodOf, mask, coefficients}
+use Rattle.tables.specs.Form.{methodSection, tableSection, entrySection, Tables, conversionCell, tableCell, firstEntryCell, entriesCell, defaultCell, defaultPastCell, kind, first, methodOf, mask, coefficients}
 use Rattle.tables.specs.Group.{bytes, placeOf}
 use Rattle.tables.specs.Rule.{isVerbal}
 use Rattle.look.specs.declared.element.Line.{Line}
@@ -31,12 +31,13 @@ module _ (T : Tables) where
   -- the text that verbal table s gives (no table has more entries than all may have)
   unfoldable pub textAt : ℕ → ℤ → Value
   textAt s raw =
-      verbalOf (T .slots entrySection) (T .slots tableSection s 0) (min (T .slots tableSection s 1) mostEntries) (T .slots tableSection s 2) (T .slots tableSection s 3) raw
+      verbalOf (T .slots entrySection) (T .slots tableSection s firstEntryCell) (min (T .slots tableSection s entriesCell) mostEntries)
+      (T .slots tableSection s defaultCell) (T .slots tableSection s defaultPastCell) raw
 
   -- method m: "TAB_VERB: the entry with that number gives its text", the others a fraction
   unfoldable pub meansBy : ℕ → ℤ → Value
   meansBy m raw =
-      cond (isVerbal (T .slots methodSection m 0)) (textAt (T .slots methodSection m 9 - 1) raw)
+      cond (isVerbal (T .slots methodSection m conversionCell)) (textAt (T .slots methodSection m tableCell - 1) raw)
       (fractionOf (coefficients T m) raw)
 
   -- "IDENTICAL and NO_COMPU_METHOD are 1, 0, 0, 1."

@@ -5,7 +5,7 @@ use mathlib.Core.Bool.{Bool, cond, _||_}
 use lib.IntN.{pos}
 use lib.ListN.{getD, set}
 use Rattle.number.specs.Answer.{Answer, given, refused}
-use Rattle.tables.specs.Form.{methodSection, tablesIn, methodOf}
+use Rattle.tables.specs.Form.{methodSection, tablesIn, tableCell, methodOf}
 use Rattle.look.specs.declared.element.Line.{Line}
 use Rattle.look.specs.declared.meaning.Meaning.{Meaning}
 use Rattle.look.specs.Element.{pastRecords, lineOf, touched}
@@ -34,7 +34,7 @@ elementNo t l enough o p i = refusalOf (judgedElement t l enough o p i (given (t
 abbrev pub meaningOf : List ℕ → ℕ → Meaning
 meaningOf t g = record {
   verbal = isTabVerb (tablesIn t) g;
-  table = min (tablesIn t .slots methodSection (methodOf (tablesIn t) g - 1) 9 - 1) pastRecords;
+  table = min (tablesIn t .slots methodSection (methodOf (tablesIn t) g - 1) tableCell - 1) pastRecords;
   k = asksBy (tablesIn t) g;
 }
 

@@ -1,13 +1,4 @@
 -- The form of the lent tables: sections of records of numbers, one after the other in the cells of one slice (records' `encode`).
---   head    0 edition  1 size mark (both 0)  2 how many elements all objects have
---   object  0, 1 the name's first byte and the one past it  2 what it is: AXIS_PTS, MEASUREMENT, VALUE, VAL_BLK, CURVE or MAP, by the word's code
---   group   the parts of object i are the groups 3·i (x points), 3·i + 1 (y points) and 3·i + 2 (values); a part that it does not store has zeros
---           0 data type  1 byte order (1 MSB_FIRST)  2 the first byte's place in the image  3, 4 points in x and in y  5, 6 room in x and in y
---           7 walk (0 as listed, 1 the last point first, 2 y fastest)  8 its method's number and one more (0: NO_COMPU_METHOD)  9 mask (0: none)
---           10 writing is forbidden (1)  11 .. 13 lower limit  14 .. 16 upper limit  17 the stored count's data type (0: none)  18 the count's place
---   method  0 conversion  1, 2 b  3, 4 c  5, 6 e  7, 8 f  9 its verbal table's number and one more (0: none)
---   table   0 its first entry  1 how many  2, 3 DEFAULT_VALUE's first byte and the one past it (0, 0: none)
---   entry   0, 1 the number  2, 3 the text's first byte and the one past it
 -- A whole number takes two cells: 1 below zero, and its size. A decimal takes three: 1 below zero, its whole number, its power of ten.
 use Prim.Native.Nat.{ℕ, suc, _+_, min}
 use mathlib.Core.List.{List, [], _∷_}
@@ -61,6 +52,130 @@ tablesOf d = record { counts = count d; slots = slot d }
 abbrev pub tablesIn : List ℕ → Tables
 tablesIn t = record { counts = λ j. countIn t (sectionIn tableSections j); slots = λ j. slotIn t (sectionIn tableSections j) }
 
+-- ---- the cells of each section's records, by name; of the cells that a number takes, the first
+
+-- head: edition and size mark (both 0), how many elements all objects have
+abbrev pub editionCell : ℕ
+editionCell = 0
+
+abbrev pub sizeMarkCell : ℕ
+sizeMarkCell = 1
+
+abbrev pub totalCell : ℕ
+totalCell = 2
+
+-- object: its name's first byte and the one past it; what it is, AXIS_PTS, MEASUREMENT, VALUE, VAL_BLK, CURVE or MAP, by the word's code
+abbrev pub nameCell : ℕ
+nameCell = 0
+
+abbrev pub namePastCell : ℕ
+namePastCell = 1
+
+abbrev pub whatCell : ℕ
+whatCell = 2
+
+-- group: the parts of object i are the groups 3·i (x points), 3·i + 1 (y points) and 3·i + 2 (values); a part that it does not store has zeros
+
+-- data type; byte order (1 MSB_FIRST); the first byte's place in the image
+abbrev pub kindCell : ℕ
+kindCell = 0
+
+abbrev pub orderCell : ℕ
+orderCell = 1
+
+abbrev pub placeCell : ℕ
+placeCell = 2
+
+-- points in x and in y; room in x and in y
+abbrev pub xCell : ℕ
+xCell = 3
+
+abbrev pub yCell : ℕ
+yCell = 4
+
+abbrev pub wideCell : ℕ
+wideCell = 5
+
+abbrev pub highCell : ℕ
+highCell = 6
+
+-- walk: 0 as listed, 1 the last point first, 2 y fastest
+abbrev pub walkCell : ℕ
+walkCell = 7
+
+-- its method's number and one more (0: NO_COMPU_METHOD); mask (0: none); writing is forbidden (1)
+abbrev pub methodCell : ℕ
+methodCell = 8
+
+abbrev pub maskCell : ℕ
+maskCell = 9
+
+abbrev pub forbiddenCell : ℕ
+forbiddenCell = 10
+
+-- lower and upper limit, two decimals
+abbrev pub lowerCell : ℕ
+lowerCell = 11
+
+abbrev pub upperCell : ℕ
+upperCell = 14
+
+-- the stored count's data type (0: none) and place
+abbrev pub counterCell : ℕ
+counterCell = 17
+
+abbrev pub counterPlaceCell : ℕ
+counterPlaceCell = 18
+
+-- how many cells a group has
+abbrev pub groupWidth : ℕ
+groupWidth = 19
+
+-- method: conversion; b, c, e and f, four whole numbers; its verbal table's number and one more (0: none)
+abbrev pub conversionCell : ℕ
+conversionCell = 0
+
+abbrev pub bCell : ℕ
+bCell = 1
+
+abbrev pub cCell : ℕ
+cCell = 3
+
+abbrev pub eCell : ℕ
+eCell = 5
+
+abbrev pub fCell : ℕ
+fCell = 7
+
+abbrev pub tableCell : ℕ
+tableCell = 9
+
+-- table: its first entry, how many it has; DEFAULT_VALUE's first byte and the one past it (0, 0: none)
+abbrev pub firstEntryCell : ℕ
+firstEntryCell = 0
+
+abbrev pub entriesCell : ℕ
+entriesCell = 1
+
+abbrev pub defaultCell : ℕ
+defaultCell = 2
+
+abbrev pub defaultPastCell : ℕ
+defaultPastCell = 3
+
+-- entry: its number, 1 below zero and the size; the text's first byte and the one past it
+abbrev pub signCell : ℕ
+signCell = 0
+
+abbrev pub sizeCell : ℕ
+sizeCell = 1
+
+abbrev pub textCell : ℕ
+textCell = 2
+
+abbrev pub textPastCell : ℕ
+textPastCell = 3
+
 -- ---- the fields by name. A number past every capacity reads as the first past it, so that nothing grows too large.
 
 -- one past the most points; one past "1 MiB of image"; one past "10^9"
@@ -75,49 +190,49 @@ pastCoefficient = 1000000001
 
 module _ (T : Tables) where
   abbrev pub total : ℕ
-  total = T .slots headSection 0 2
+  total = T .slots headSection 0 totalCell
 
   module _ (g : ℕ) where
     abbrev pub kind : ℕ
-    kind = T .slots groupSection g 0
+    kind = T .slots groupSection g kindCell
 
     abbrev pub first : Bool
-    first = eqb (T .slots groupSection g 1) 1
+    first = eqb (T .slots groupSection g orderCell) 1
 
     abbrev pub place : ℕ
-    place = min (T .slots groupSection g 2) pastImage
+    place = min (T .slots groupSection g placeCell) pastImage
 
     abbrev pub x : ℕ
-    x = min (T .slots groupSection g 3) pastPoints
+    x = min (T .slots groupSection g xCell) pastPoints
 
     abbrev pub y : ℕ
-    y = min (T .slots groupSection g 4) pastPoints
+    y = min (T .slots groupSection g yCell) pastPoints
 
     abbrev pub wide : ℕ
-    wide = min (T .slots groupSection g 5) pastPoints
+    wide = min (T .slots groupSection g wideCell) pastPoints
 
     abbrev pub high : ℕ
-    high = min (T .slots groupSection g 6) pastPoints
+    high = min (T .slots groupSection g highCell) pastPoints
 
     abbrev pub walk : ℕ
-    walk = T .slots groupSection g 7
+    walk = T .slots groupSection g walkCell
 
     abbrev pub methodOf : ℕ
-    methodOf = T .slots groupSection g 8
+    methodOf = T .slots groupSection g methodCell
 
     abbrev pub mask : ℕ
-    mask = T .slots groupSection g 9
+    mask = T .slots groupSection g maskCell
 
     abbrev pub forbidden : Bool
-    forbidden = not (eqb (T .slots groupSection g 10) 0)
+    forbidden = not (eqb (T .slots groupSection g forbiddenCell) 0)
 
     abbrev pub counter : ℕ
-    counter = T .slots groupSection g 17
+    counter = T .slots groupSection g counterCell
 
     abbrev pub counterPlace : ℕ
-    counterPlace = min (T .slots groupSection g 18) pastImage
+    counterPlace = min (T .slots groupSection g counterPlaceCell) pastImage
 
-  -- the decimal in three cells of group g from k on: 11 the lower, 14 the upper limit
+  -- the decimal in three cells of group g from k on
   abbrev pub limit : ℕ → ℕ → Scaled
   limit g k = record { negative = eqb (T .slots groupSection g k) 1; whole = T .slots groupSection g (k + 1); tens = min (T .slots groupSection g (k + 2)) 7 }
 
@@ -126,4 +241,4 @@ module _ (T : Tables) where
   coefficient m k = signedOf (eqb (T .slots methodSection m k) 1) (min (T .slots methodSection m (k + 1)) pastCoefficient)
 
   abbrev pub coefficients : ℕ → Coefficients
-  coefficients m = record { b = coefficient m 1; c = coefficient m 3; e = coefficient m 5; f = coefficient m 7 }
+  coefficients m = record { b = coefficient m bCell; c = coefficient m cCell; e = coefficient m eCell; f = coefficient m fCell }

@@ -17,7 +17,7 @@ use Rattle.convert.specs.declared.method.Coefficients.{Coefficients}
 use Rattle.records.specs.Records.{widthOf, mostOf}
 use Rattle.records.specs.Cells.{baseIn, sectionIn, countIn}
 use Rattle.rows.specs.Codes.{AXIS-PTS, MEASUREMENT, VALUE, VAL-BLK, CURVE, MAP, IDENTICAL, LINEAR, RAT-FUNC, TAB-VERB}
-use Rattle.tables.specs.Form.{tableSections, headSection, objectSection, groupSection, methodSection, tableSection, entrySection, Tables, tablesIn, total, kind, place, x, y, wide, high, walk, methodOf, mask, counter, counterPlace, limit, coefficients}
+use Rattle.tables.specs.Form.{tableSections, headSection, objectSection, groupSection, methodSection, tableSection, entrySection, Tables, tablesIn, editionCell, sizeMarkCell, nameCell, namePastCell, whatCell, orderCell, forbiddenCell, lowerCell, upperCell, counterPlaceCell, groupWidth, conversionCell, bCell, cCell, eCell, fCell, tableCell, firstEntryCell, entriesCell, defaultCell, defaultPastCell, signCell, textCell, textPastCell, total, kind, place, x, y, wide, high, walk, methodOf, mask, counter, counterPlace, limit, coefficients}
 use Rattle.number.specs.Below.{sumBelow, allBelow, anyBelow}
 use Rattle.tables.specs.Group.{groupOf, elements, bytes}
 
@@ -79,7 +79,7 @@ module _ (T : Tables) where
 
     -- so has a MEASUREMENT, and it is marked as not to be written: "MEASUREMENT or READ_ONLY" (21)
     unfoldable pub measurementRule : Bool
-    measurementRule = valueRule && eqb (T .slots groupSection (groupOf i 2) 10) 1
+    measurementRule = valueRule && eqb (T .slots groupSection (groupOf i 2) forbiddenCell) 1
 
     -- a CURVE has values in one row, and x points where it stores them
     unfoldable pub curveRule : Bool
@@ -99,12 +99,12 @@ module _ (T : Tables) where
         (cond (eqb what MAP) mapRule false)))))
 
   unfoldable pub objectRule : ℕ → ℕ → Bool
-  objectRule n i = textRule n (T .slots objectSection i 0) (T .slots objectSection i 1) && partsRule i (T .slots objectSection i 2)
+  objectRule n i = textRule n (T .slots objectSection i nameCell) (T .slots objectSection i namePastCell) && partsRule i (T .slots objectSection i whatCell)
 
   module _ (g : ℕ) where
     -- a part that the object does not store: "no unused field other than zero"
     unfoldable pub isNoPart : Bool
-    isNoPart = allBelow 19 (λ k. eqb (T .slots groupSection g k) 0)
+    isNoPart = allBelow groupWidth (λ k. eqb (T .slots groupSection g k) 0)
 
     -- a part that is stored has points; points and room are equal: parts are packed
     unfoldable pub pointsRule : Bool
@@ -114,7 +114,7 @@ module _ (T : Tables) where
 
     -- "each stored count inside the image"; where there is none, both numbers are zero
     unfoldable pub counterRule : ℕ → Bool
-    counterRule m = eqb (counter T g) 0 && eqb (T .slots groupSection g 18) 0 || isType (counter T g) && insideRule m (counterPlace T g) (shapeOf (counter T g) .bytes)
+    counterRule m = eqb (counter T g) 0 && eqb (T .slots groupSection g counterPlaceCell) 0 || isType (counter T g) && insideRule m (counterPlace T g) (shapeOf (counter T g) .bytes)
 
     -- an axis has at most 256 points and no mask
     unfoldable pub axisRule : ℕ → Bool
@@ -124,11 +124,11 @@ module _ (T : Tables) where
     unfoldable pub valuesRule : Bool
     valuesRule =
         (eqb (walk T g) 0 || eqb (walk T g) 2) && (eqb (mask T g) 0 || maskRule (shapeOf (kind T g)) (mask T g))
-        && eqb (counter T g) 0 && eqb (T .slots groupSection g 18) 0
+        && eqb (counter T g) 0 && eqb (T .slots groupSection g counterPlaceCell) 0
 
     -- "limits in order"
     unfoldable pub limitsRule : Bool
-    limitsRule = leb (T .slots groupSection g 11) 1 && leb (T .slots groupSection g 14) 1 && atMost (limit T g 11) (limit T g 14)
+    limitsRule = leb (T .slots groupSection g lowerCell) 1 && leb (T .slots groupSection g upperCell) 1 && atMost (limit T g lowerCell) (limit T g upperCell)
 
     -- "each element's bytes .. inside the image"
     unfoldable pub bytesRule : ℕ → Bool
@@ -140,37 +140,37 @@ module _ (T : Tables) where
 
     unfoldable pub partRule : ℕ → Bool
     partRule m =
-        isType (kind T g) && leb (T .slots groupSection g 1) 1 && pointsRule && bytesRule m && roleRule m
-        && leb (methodOf T g) (T .counts methodSection) && leb (T .slots groupSection g 10) 1 && limitsRule
+        isType (kind T g) && leb (T .slots groupSection g orderCell) 1 && pointsRule && bytesRule m && roleRule m
+        && leb (methodOf T g) (T .counts methodSection) && leb (T .slots groupSection g forbiddenCell) 1 && limitsRule
 
     unfoldable pub groupRule : ℕ → Bool
     groupRule m = cond (eqb (kind T g) 0) isNoPart (partRule m)
 
   -- "conversions .. as above"
   unfoldable pub verbalRule : ℕ → Bool
-  verbalRule i = allBelow 8 (λ k. eqb (T .slots methodSection i (k + 1)) 0) && leb 1 (T .slots methodSection i 9) && leb (T .slots methodSection i 9) (T .counts tableSection)
+  verbalRule i = allBelow 8 (λ k. eqb (T .slots methodSection i (k + bCell)) 0) && leb 1 (T .slots methodSection i tableCell) && leb (T .slots methodSection i tableCell) (T .counts tableSection)
 
   unfoldable pub signsRule : ℕ → Bool
-  signsRule i = leb (T .slots methodSection i 1) 1 && leb (T .slots methodSection i 3) 1 && leb (T .slots methodSection i 5) 1 && leb (T .slots methodSection i 7) 1
+  signsRule i = leb (T .slots methodSection i bCell) 1 && leb (T .slots methodSection i cCell) 1 && leb (T .slots methodSection i eCell) 1 && leb (T .slots methodSection i fCell) 1
 
   unfoldable pub fractionRule : ℕ → Bool
   fractionRule i =
-      isFraction (T .slots methodSection i 0) && signsRule i && soundMethod (coefficients T i)
-      && wordRule (T .slots methodSection i 0) (coefficients T i) && eqb (T .slots methodSection i 9) 0
+      isFraction (T .slots methodSection i conversionCell) && signsRule i && soundMethod (coefficients T i)
+      && wordRule (T .slots methodSection i conversionCell) (coefficients T i) && eqb (T .slots methodSection i tableCell) 0
 
   unfoldable pub methodRule : ℕ → Bool
-  methodRule i = cond (isVerbal (T .slots methodSection i 0)) (verbalRule i) (fractionRule i)
+  methodRule i = cond (isVerbal (T .slots methodSection i conversionCell)) (verbalRule i) (fractionRule i)
 
   unfoldable pub tableRule : ℕ → ℕ → Bool
-  tableRule n i = leb (T .slots tableSection i 0 + T .slots tableSection i 1) (T .counts entrySection) && textRule n (T .slots tableSection i 2) (T .slots tableSection i 3)
+  tableRule n i = leb (T .slots tableSection i firstEntryCell + T .slots tableSection i entriesCell) (T .counts entrySection) && textRule n (T .slots tableSection i defaultCell) (T .slots tableSection i defaultPastCell)
 
   unfoldable pub entryRule : ℕ → ℕ → Bool
-  entryRule n i = leb (T .slots entrySection i 0) 1 && textRule n (T .slots entrySection i 2) (T .slots entrySection i 3)
+  entryRule n i = leb (T .slots entrySection i signCell) 1 && textRule n (T .slots entrySection i textCell) (T .slots entrySection i textPastCell)
 
   -- "4,096 elements in all objects", as many as the head says; edition and size mark have no meaning yet
   unfoldable pub headRule : Bool
   headRule =
-      eqb (T .counts headSection) 1 && eqb (T .slots headSection 0 0) 0 && eqb (T .slots headSection 0 1) 0
+      eqb (T .counts headSection) 1 && eqb (T .slots headSection 0 editionCell) 0 && eqb (T .slots headSection 0 sizeMarkCell) 0
       && eqb (total T) (sumBelow (T .counts groupSection) (elements T)) && leb (total T) mostElements && eqb (T .counts groupSection) (T .counts objectSection * 3)
 
   unfoldable pub ruled : ℕ → ℕ → Bool

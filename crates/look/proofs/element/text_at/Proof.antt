@@ -17,4 +17,5 @@ text-at-spec =
     (λ c κs. search needs)
     (λ c κs. search needs)
     (λ c κs. search needs)
-    (λ c. text-is _ _ _ _ _ _ _ _ _ _ _ (c .text-of .ensures) (returned (c .before .before .before .before .before .before .before .before .args .raw) (omega arith)) (c .before .before .entry-cell .ensures) (c .before .entries .ensures) (c .before .before .before .before .before .before .slot-of .ensures) (c .before .before .before .before .before .slot-of2 .ensures) (c .before .before .before .before .slot-of3 .ensures) (c .before .before .before .slot-of4 .ensures)))
+    (λ c κs. search needs)
+    (λ c. text-is _ _ _ _ _ _ _ _ _ _ _ _ (c .text-of .ensures) (returned (c .before .before .before .before .before .before .before .before .before .args .raw) (omega arith)) (c .before .before .before .section-of .ensures) (c .before .before .entries .ensures) (c .before .entries2 .ensures) (c .before .before .before .before .before .before .before .slot-of .ensures) (c .before .before .before .before .before .before .slot-of2 .ensures) (c .before .before .before .before .before .slot-of3 .ensures) (c .before .before .before .before .slot-of4 .ensures)))

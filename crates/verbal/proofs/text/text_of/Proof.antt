@@ -42,9 +42,10 @@ loop-less c = omega arith
 loop-again : tie.Need-loop-again Inv-loop μ-loop
 loop-again c =
     let t = c .before .before .before .before .before .args in
-    let l = c .before .before .before .loop in
-    ( omega arith
-    , walk-on (slotIn (t .t .now) (t .c)) (l .e) (defaultOf (placeIn (t .first)) (placeIn (t .past))) (back (t .raw)) (c .before .has-number .ensures) (l .left) (c .before .before .loop-test .taken) (c .if1 .left) ∙ l .inv .1)
+    let l = c .before .before .before .loop in (
+      omega arith,
+      walk-on (slotIn (t .t .now) (t .c)) (l .e) (defaultOf (placeIn (t .first)) (placeIn (t .past))) (back (t .raw)) (c .before .has-number .ensures) (l .left) (c .before .before .loop-test .taken) (c .if1 .left) ∙ l .inv .1,
+    )
 
 returns-2 : tie.Need-returns-2 Inv-loop μ-loop
 returns-2 c =

@@ -7,9 +7,9 @@ use native.Mathlib.Omega.{arith}
 use native.Mathlib.Nat.{mul-le-mul, mul-le-mul-left, mul-suc}
 use borrow.Author.Needs.{needs}
 use borrow.Author.Tests.{lt-ltb, ltb-true, leb-true, eqb-true, eq-eqb}
-use lib.Dec.{T, ltb, leb, eqb, ltb→lt}
-use mir.Syntax.{Width, w64}
-use mir.Val.{Fits, bits}
+use lib.Dec.{ltb, leb, eqb}
+use mir.Syntax.{w64}
+use mir.Val.{Fits}
 use Rattle.cell.specs.Kind.{shapeOf}
 use Rattle.cell.proofs.Shapes.{bytes-le}
 use Rattle.tables.specs.Form.{Tables, tablesIn, pastPoints}
@@ -42,11 +42,16 @@ holds-is x wide y high w h =
       or-second true b e k = k
       or-second false b e k = absurd (false≢true e)
 
-pub room-small : (a b : ℕ) → a ≤ pastPoints → b ≤ pastPoints → a * b ≤ pastPoints * pastPoints
+room-small : (a b : ℕ) → a ≤ pastPoints → b ≤ pastPoints → a * b ≤ pastPoints * pastPoints
 room-small a b p q = mul-le-mul {n₂ = pastPoints} {m₂ = pastPoints} p q
 
-pub room-bytes-small : (k h r : ℕ) → h ≡ shapeOf k .bytes → r ≤ pastPoints * pastPoints → h * r ≤ 4 * (pastPoints * pastPoints)
-room-bytes-small k h r e p = mul-le-mul {n₂ = 4} {m₂ = pastPoints * pastPoints} (rw e (bytes-le k)) p
+pub room-fits : (a b : ℕ) → a ≤ pastPoints → b ≤ pastPoints → Fits w64 (a * b)
+room-fits a b p q = record { fits = omega (arith, room-small a b p q) }
+
+pub room-bytes-fit : (k h a b : ℕ) → h ≡ shapeOf k .bytes → a ≤ pastPoints → b ≤ pastPoints → Fits w64 (h * (a * b))
+room-bytes-fit k h a b e p q =
+    let m : h * (a * b) ≤ 4 * (pastPoints * pastPoints) = mul-le-mul {n₂ = 4} {m₂ = pastPoints * pastPoints} (rw e (bytes-le k)) (room-small a b p q) in
+    record { fits = omega (arith, m) }
 
 pub room-is : (k h r : ℕ) → h ≡ shapeOf k .bytes → h * r ≡ shapeOf k .bytes * r
 room-is k h r e = rw e

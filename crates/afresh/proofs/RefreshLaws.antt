@@ -10,20 +10,21 @@ use borrow.Author.Needs.{needs}
 use lib.IntN.{ℤ, pos}
 use lib.ListN.{length, getD, set, length-set}
 use lib.Seq.{set-out}
-use mir.Syntax.{w32, w64}
+use mir.Syntax.{w64}
 use mir.Val.{Fits}
 use Rattle.cell.specs.Kind.{shapeOf}
 use Rattle.tables.specs.Form.{tablesIn}
 use Rattle.number.specs.Below.{sumBelow}
 use Rattle.tables.specs.Group.{elements, storageOf, placeBy}
 use Rattle.tables.specs.declared.group.Storage.{Storage}
+use Rattle.tables.proofs.GroupLaws.{stored-wide, stored-high}
 use Rattle.look.specs.declared.element.Line.{Line}
 use Rattle.look.specs.declared.meaning.Meaning.{Meaning}
 use Rattle.look.specs.Lines.{laidOver, keep, fresh}
 use Rattle.look.specs.Element.{lineOf, shares, touched}
 use Rattle.look.specs.Calls.{Kept, kept, room, groups, remade, refreshed}
 use Rattle.look.specs.Steps.{picked, putLine, putLines, meaningOf}
-use Rattle.afresh.proofs.ApartLaws.{touch-group, passed-is}
+use Rattle.afresh.proofs.ApartLaws.{touch-group, passed-is, reached}
 use Rattle.afresh.proofs.LineLaws.{sum-more, sum-in, over-none, upto, upto-none, upto-next, upto-all, turn, length-at, line-kept, line-fresh, fresh-all}
 
 -- ---- one column
@@ -113,7 +114,6 @@ module _ (s : ℕ → ℕ → Bool) (t img : List ℕ) (g k : ℕ) where
 
   -- what the loop over a group's n lines keeps: c is c₀ with the first i of them worked out
   pub record InGroup (n i : ℕ) (c₀ c : Kept) : Type 0 where
-    pub few : n < 2 ^ 32
     pub ends : k + n < 2 ^ 64
     pub within : i ≤ n
     pub so-far : c ≡ putLines s t img g k i c₀
@@ -122,15 +122,15 @@ module _ (s : ℕ → ℕ → Bool) (t img : List ℕ) (g k : ℕ) where
     pub line-fits : i < n → Fits w64 (k + i)
     line-fits l = record { fits = omega (arith, f .ends) }
 
-    pub index-fits : i < n → Fits w32 (i + 1)
-    index-fits l = record { fits = omega (arith, f .few) }
+    pub index-fits : i < n → Fits w64 (i + 1)
+    index-fits l = record { fits = omega (arith, f .ends) }
 
     -- v and m are how the group is stored and what its numbers mean by
     pub group-turn : (c′ : Kept) (v : Storage) (m : Meaning) → i < n → v ≡ storageOf (tablesIn t) g → m ≡ meaningOf t g
         → ((h : ℕ) → v ≡ storageOf (tablesIn t) h → m ≡ meaningOf t h → c′ ≡ putLine (s h i) (k + i) (lineOf (tablesIn t) img h i) c)
         → InGroup n (i + 1) c₀ c′
     group-turn c′ v m l ev em q =
-        record { few = f .few; ends = f .ends; within = omega arith; so-far = q g ev em ∙ (let p = f .so-far in rw (p, add-one i)) }
+        record { ends = f .ends; within = omega arith; so-far = q g ev em ∙ (let p = f .so-far in rw (p, add-one i)) }
 
     pub group-end : n ≤ i → c ≡ putLines s t img g k n c₀
     group-end h = let e : i ≡ n = omega (arith, f .within) in let p = f .so-far in rw e at p
@@ -153,7 +153,7 @@ module _ (s : ℕ → ℕ → Bool) (t img : List ℕ) (g k : ℕ) where
 pub turn-less : (n i : ℕ) → i < n → n - (i + 1) < n - i
 turn-less n i h = omega arith
 
-pub ruleset group-lines = (group-none, group-passed, passed-is, line-fits, index-fits, group-turn, group-end, group-raw, group-state, group-first, group-second, turn-less, needs)
+pub ruleset group-lines = (stored-wide, stored-high, reached, group-none, group-passed, passed-is, line-fits, index-fits, group-turn, group-end, group-raw, group-state, group-first, group-second, turn-less, needs)
 
 -- ---- the loop: k₀ is what was kept at its start, c what is kept now
 module _ (s : ℕ → ℕ → Bool) (t img : List ℕ) (k₀ : Kept) where

@@ -23,6 +23,7 @@ use Rattle.grammar.specs.Parameter.{aName, aBegin, anEnd}
 use Rattle.grammar.specs.Keyword.{counting, stands, plainRow, homeOf, levelsIn, skips, opens, ends, holderOf, item, afterBegin, afterEnd}
 use Rattle.grammar.specs.Read.{onPiece, readFrom, move, start, read}
 use Rattle.grammar.specs.declared.state.State.{State}
+use Rattle.tree.proofs.Skipping.{skipped-exactly}
 use Rattle.tree.specs.Tree.{Records, Among, Comes, Free, counted, Stands, Content, closed, holdsKeyword, passesKeyword, holdsBlock, skipsBlock, Versions, version, Description, description}
 use Rattle.tree.specs.Tree as tree
 use Rattle.tree.proofs.Tables.{IsRow, number-of}
@@ -135,7 +136,8 @@ content-leads x (holdsBlock {b} {k} {a} {e} {e₁} {k₁} {k₂} {k′} {d} {d�
     then fills x d (n .0) r (n .1) b (r .word) e₁ k₁ d₁ s e (state begun b 0 0) (w .0) (w .1) (opens-on x d (n .0) r (n .1) (s .free) b (w .0) e₁ (s .placed) (w .2))
     then subst (λ (m : State). Leads x k₁ (resting (r .word)) d₁ k₂ m d₂) (leaving-inner b (n .0) r (n .1) (row-shaped r (s .listed) .blocks (block-number x (w .0) e₁ (r .word) (w .2))) (s .placed) z) (content-leads x inner (n .1 .named))
     then content-leads x rest z
-content-leads x (skipsBlock {b} {k} {a} {e} {f} {g} {c} {k₁} {k′} {d} t u w h rest) z =
+content-leads x (skipsBlock {b} {k} {a} {e} {f} {g} {c} {k₁} {k′} {d} t u w i rest) z =
+    let h = skipped-exactly x (levelsIn b) f g k₁ .1 i in
     past x k (resting b) d piece.begin a e t (state begun b 0 0) idle (begin-on x d b a e) d (applied-idle d)
     then subst (Leads x e (state begun b 0 0) d k₁ (resting b)) (applied-idle d)
     (further x e (state begun b 0 0) d piece.name f g u k₁ (resting b) idle (skip-on x d b f g z c k₁ w h) (λ l. subst (Reaches (length x) g) h (skip-block-within (levelsIn b) x f g l)))

@@ -21,6 +21,7 @@ use Rattle.grammar.specs.Move.{view, state, begun, ended, finished, applied, Mo
 use Rattle.grammar.specs.Parameter.{aName, aBegin, anEnd}
 use Rattle.grammar.specs.Keyword.{rowOf, isRow, mayStand, isOften, counting, stands, plainRow, homeOf, bareWord, levelsIn, ofSkip, skips, opens, begunWord, allMet, ends, holderOf, closes, endedWord, item, afterBegin, afterEnd}
 use Rattle.grammar.specs.Read.{onPiece, readFrom}
+use Rattle.tree.proofs.Skipping.{skipped-exactly}
 use Rattle.tree.specs.Tree.{Records, Among, Comes, Word, Free, counted, Stands, Met, Content, closed, holdsKeyword, passesKeyword, holdsBlock, skipsBlock, Versions, version}
 use Rattle.tree.specs.Tree as tree
 use Rattle.tree.proofs.Tables.{IsRow, row-at}
@@ -162,7 +163,7 @@ module _ (x : List ℕ) (d′ : Records) (f : ℕ) (ih : Claims x d′ f) (d : R
     -- a block that is skipped
     skip-gives : (c : ℕ) → classAt x a e ≡ word.skippedBlock c → eqb b FILE ≡ false → (r : Answer ℕ) → skipBlock (levelsIn b) x a e ≡ r → Gv (Rest x d′ b k₀ d) (ofSkip (state begun b 0 0) r)
     skip-gives c w z (given k₁) s = λ h.
-        prepended x d′ k₀ d z (λ k₂ d₂ m. skipsBlock p q w s m) (ih .rests b k₁ d (subst (λ (c : Records). readFrom f x k₁ (resting b) c ≡ given d′) (applied-idle d) h))
+        prepended x d′ k₀ d z (λ k₂ d₂ m. skipsBlock p q w (skipped-exactly x (levelsIn b) a e k₁ .0 s) m) (ih .rests b k₁ d (subst (λ (c : Records). readFrom f x k₁ (resting b) c ≡ given d′) (applied-idle d) h))
     skip-gives c w z (piece.refused n i) s = tt
 
     skips-gives : (c : ℕ) → classAt x a e ≡ word.skippedBlock c → Gv (Rest x d′ b k₀ d) (skips x (state begun b 0 0) a e)

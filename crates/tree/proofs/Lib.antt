@@ -1,3 +1,4 @@
+pub mod Skipping
 pub mod Tables
 pub mod Acts
 pub mod Steps

@@ -30,6 +30,7 @@ use Rattle.grammar.specs.declared.state.Act.{Act}
 use Rattle.grammar.proofs.Cells.{good-applied}
 use Rattle.facts.proofs.Moves.{wideOf}
 use Rattle.facts.proofs.Slots.{clear-slot, other-slot, written-slot, same-count, one-record, start-slot}
+use Rattle.tree.proofs.Skipping.{skipped-exactly}
 use Rattle.tree.specs.Tree.{Records, Among, current, written, kept, limit, counted, Stands, Met, Content, closed, holdsKeyword, passesKeyword, holdsBlock, skipsBlock, Versions, version, Description, description}
 use Rattle.tree.specs.Tree as tree
 use Rattle.tree.specs.Points.{Pointed}
@@ -583,7 +584,7 @@ content-holds x (holdsBlock {b} {k} {a} {e} {e₁} {k₁} {k₂} {k′} {d} {d�
     content-holds x more (c .0) (rw q at (c .1))
 content-holds x (skipsBlock {b} {k} {a} {e} {f} {g} {c} {k₁} {k′} {d} t u w z more) l h =
     let p : g ≤ length x = token-lies x e piece.name f g (token-lies x k piece.begin a e l t .2) u .2 in
-    content-holds x more (subst (Reaches (length x) g) z (skip-block-within (levelsIn b) x f g p) .1) h
+    content-holds x more (subst (Reaches (length x) g) (skipped-exactly x (levelsIn b) f g k₁ .1 z) (skip-block-within (levelsIn b) x f g p) .1) h
 
 versions-hold : (x : List ℕ) {k k′ : ℕ} {d d′ : Records} → Versions x k d k′ d′ → k ≤ length x → Holds FILE d → (k′ ≤ length x) × Holds FILE d′
 versions-hold x tree.Versions.noMore l h = (l, h)

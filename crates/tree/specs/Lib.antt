@@ -1,2 +1,3 @@
+pub mod Skipped
 pub mod Tree
 pub mod Points

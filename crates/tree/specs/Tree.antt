@@ -10,7 +10,6 @@ use lib.Dec.{eqb}
 use Rattle.text.specs.Answer as piece
 use Rattle.text.specs.Answer.{given}
 use Rattle.text.specs.Bytes.{samePart}
-use Rattle.text.specs.Skip.{skipBlock}
 use Rattle.text.specs.Token.{nextToken}
 use Rattle.number.specs.Answer as number
 use Rattle.number.specs.Answer.{inRun}
@@ -29,6 +28,7 @@ use Rattle.grammar.specs.Move.{view, puts}
 use Rattle.grammar.specs.Parameter.{decimalIn, signOf}
 use Rattle.grammar.specs.Keyword.{axesOf, levelsIn}
 use Rattle.grammar.specs.Read.{start}
+use Rattle.tree.specs.Skipped.{Skipped}
 
 -- the records that are read from a description
 abbrev pub Records : Type 0
@@ -171,7 +171,7 @@ pub data Content (x : List ℕ) : ℕ → ℕ → Records → ℕ → Records �
       → Stands x b (r .word) r e₁ d k₁ d₁ → Content x (r .word) k₁ d₁ k₂ d₂ → Content x b k₂ d₂ k′ d′ → Content x b k d k′ d′
   -- "Skipped whole: blocks A2ML, IF_DATA, ANNOTATION, GROUP, FUNCTION, FUNCTION_LIST, MOD_PAR, HEADER"
   skipsBlock : {b k a e f g c k₁ k′ : ℕ} {d d′ : Records} → Comes x k piece.begin a e → Comes x e piece.name f g → classAt x f g ≡ word.skippedBlock c
-      → skipBlock (levelsIn b) x f g ≡ given k₁ → Content x b k₁ d k′ d′ → Content x b k d k′ d′
+      → Skipped x (levelsIn b) f g k₁ → Content x b k₁ d k′ d′ → Content x b k d k′ d′
 
 -- "the two versions also before PROJECT"
 pub data Versions (x : List ℕ) : ℕ → Records → ℕ → Records → Type 0 where

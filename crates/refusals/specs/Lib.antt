@@ -1,0 +1,2 @@
+-- The refusals of a load.
+pub mod Refusals

@@ -1,4 +1,4 @@
--- THE THIRD DEMAND, as theorems about the calls' definitions, which the code meets by its contracts.
+-- Runs of writes: laws of the calls' definitions, which the code meets by its contracts, for any tables and any list.
 --     kept-equals-made-anew, made-anew-in-place     after any run of writes the kept list is the list made anew
 --     refused-changes-nothing, make-refused-changes-nothing     "No refusal touches image or list."
 --     bytes-outside-kept, bits-outside-kept, length-kept     what of the image a write leaves alone
@@ -31,7 +31,7 @@ use Rattle.tables.proofs.Reading.{element-inside, total-is}
 use Rattle.look.specs.Element.{rawIn, touched}
 use Rattle.look.specs.Calls.{Lent, lentOf, lentBy, checked, searched, Reading, readingOf, reading, Kept, room, groups, hasRoom, remade, After, afterwards, making, rawNumber, Request, request, groupIn, judgedRequest, writing, lineAt, withImage}
 use Rattle.look.specs.Steps.{refusalOf}
-use Rattle.demand.specs.Runs.{running}
+use Rattle.demands.specs.Runs.{running}
 use Rattle.look.specs.Told.{toldSearch, toldRead, toldCall, after}
 use Rattle.look.specs.declared.search.SearchAnswer.{SearchAnswer}
 use Rattle.look.specs.declared.search.SearchAnswer.the-variants as search

@@ -1,2 +1,0 @@
--- What the demand speaks of beside the calls.
-pub mod Runs

@@ -1,0 +1,98 @@
+-- THE SECOND DEMAND: "A description with its image is accepted exactly if it keeps the written rules."
+--     accepted-exactly      a load is accepted exactly if what is lent is large enough and the description with its image keeps the rules
+--     accepted-leaves       what the lent tables and the lent work then hold
+use Prim.Native.Nat.{ℕ, _+_, _^_, _≤_}
+use mathlib.Core.Path.{_≡_, refl, sym, _∙_, ap}
+use mathlib.Core.List.{List}
+use mathlib.Core.Bool.{Bool, true, false, _&&_}
+use mathlib.Core.Logic.{_↔_}
+use native.Mathlib.Omega.{arith}
+use borrow.Author.Tests.{le-leb, leb-true}
+use lib.Dec.{leb}
+use lib.ListN.{length, replicate}
+use Rattle.text.specs.Answer.{Answer, given, refused}
+use Rattle.text.proofs.Within.{by-test, and-left, and-right}
+use Rattle.records.specs.Cells.{room, encode}
+use Rattle.rows.specs.Sections as records
+use Rattle.grammar.specs.Move.{view}
+use Rattle.build.specs.Build.{built}
+use Rattle.tables.specs.Form.{tableSections}
+use Rattle.tables.specs.Sizes.{sizesFit}
+use Rattle.load.specs.Load.{described, Loaded, left, loaded}
+use Rattle.load.proofs.LoadLaws.{work-room}
+use Rattle.tree.specs.Tree.{Records, Description}
+use Rattle.tree.proofs.Accepted as text
+use Rattle.keeps.specs.Accepted.{allElements, Accepted, Taken}
+use Rattle.keeps.proofs.Bits.{and}
+use Rattle.keeps.proofs.Exactly.{accepted-is, accepted-given}
+use Rattle.demands.specs.Rules.{Fits, Keeps}
+use Rattle.demands.proofs.Ruling.{keeps-accepted, accepted-keeps}
+
+-- how many cells the tables take
+pub table-room : room tableSections ≡ 36617
+unfolding tableSections
+table-room = refl
+
+module _ (x image : List ℕ) (base : ℕ) (tables work : List ℕ) where
+  abbrev enough : Bool
+  enough = sizesFit (length x) (length image) base (length tables) && leb (room records.sections) (length work)
+
+  pub fits-enough : Fits x image base tables work → enough ≡ true
+  unfolding sizesFit
+  fits-enough f =
+      and (and (and (and (le-leb (length x) (2 ^ 24) (f .text-fits)) (le-leb (length image) (2 ^ 20) (f .image-fits))) (le-leb (base + length image) (2 ^ 32) (f .ends-below)))
+      (rw table-room (le-leb 36617 (length tables) (f .tables-fit)))) (rw work-room (le-leb 42578 (length work) (f .work-fits)))
+
+  pub enough-fits : enough ≡ true → Fits x image base tables work
+  unfolding sizesFit
+  enough-fits h =
+      let a = leb (length x) (2 ^ 24) in
+      let b = leb (length image) (2 ^ 20) in
+      let c = leb (base + length image) (2 ^ 32) in
+      let d = leb (room tableSections) (length tables) in
+      let e = leb (room records.sections) (length work) in
+      let four : (a && b && c && d) ≡ true = and-left (a && b && c && d) e h in
+      let three : (a && b && c) ≡ true = and-left (a && b && c) d four in
+      let two : (a && b) ≡ true = and-left (a && b) c three in
+      record {
+        text-fits = leb-true (length x) (2 ^ 24) (and-left a b two);
+        image-fits = leb-true (length image) (2 ^ 20) (and-right a b two);
+        ends-below = leb-true (base + length image) (2 ^ 32) (and-right (a && b) c three);
+        tables-fit = rw table-room at (leb-true (room tableSections) (length tables) (and-right (a && b && c) d four));
+        work-fits = rw work-room at (leb-true (room records.sections) (length work) (and-right (a && b && c && d) e h));
+      }
+
+  -- the cells of the tables that are made of the records
+  abbrev pub tablesFor : Records → List ℕ
+  tablesFor d = encode tableSections (length tables) (built image base x (view d) (allElements image base x d))
+
+  -- what the stages give
+  pub loaded-given : Fits x image base tables work → (D : Records) → described image base x ≡ given D
+      → loaded x image base tables work ≡ record { answer = given tt; tables = encode tableSections (length tables) D; work = replicate (length work) 0 }
+  unfolding loaded
+  loaded-given f D h = rw (fits-enough f, h)
+
+  -- the tables of an accepted load are those that its tree and the image make, and the lent work is zero
+  pub accepted-leaves : Fits x image base tables work → (k : Keeps x image base)
+      → loaded x image base tables work ≡ record { answer = given tt; tables = tablesFor (k .records); work = replicate (length work) 0 }
+  unfolding loaded
+  accepted-leaves f k =
+      let t : Taken image base x (built image base x (view (k .records)) (allElements image base x (k .records))) =
+      record { records = k .records; is-read = text.accepted-exactly x (k .records) .1 (k .tree); accepted = keeps-accepted x image base k; is-built = refl } in
+      rw (fits-enough f, accepted-given image base x (built image base x (view (k .records)) (allElements image base x (k .records))) t)
+
+  load-keeps : loaded x image base tables work .answer ≡ given tt → Fits x image base tables work × Keeps x image base
+  unfolding loaded
+  load-keeps =
+      by-test (λ (r : Loaded). r .answer ≡ given tt → Fits x image base tables work × Keeps x image base) enough
+      (λ e. taken e (described image base x) refl) (λ e h. let z : _≡_ {A = ℕ} 0 1 = cc in absurd (omega arith))
+    where
+      taken : enough ≡ true → (a : Answer Records) → described image base x ≡ a → left (length tables) (length work) a .answer ≡ given tt → Fits x image base tables work × Keeps x image base
+      taken e (given D) h g =
+          let t : Taken image base x D = accepted-is image base x D h in
+          (enough-fits e, accepted-keeps x image base (t .records) (text.accepted-exactly x (t .records) .0 (t .is-read)) (t .accepted))
+      taken e (refused n p) h g = let z : _≡_ {A = ℕ} 0 1 = cc in absurd (omega arith)
+
+  -- "A description with its image is accepted exactly if it keeps the written rules"
+  pub accepted-exactly : (loaded x image base tables work .answer ≡ given tt) ↔ (Fits x image base tables work × Keeps x image base)
+  accepted-exactly = (load-keeps, λ p. ap (λ (r : Loaded). r .answer) (accepted-leaves (p .0) (p .1)))

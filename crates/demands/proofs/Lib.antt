@@ -1,0 +1,21 @@
+-- The demands as theorems about the calls that users make: First, Second and Third are what a reader needs; the others prove them.
+pub mod First
+pub mod Second
+pub mod Third
+pub mod Runs
+pub mod Searched
+pub mod Lengths
+pub mod Placing
+pub mod Leading
+pub mod Ruling
+pub mod Accepting
+pub mod Telling
+pub mod Standing
+pub mod Ones
+pub mod Keeping
+pub mod Frames
+pub mod Meaning
+pub mod Verbal
+pub mod Converting
+pub mod Powers
+pub mod Types

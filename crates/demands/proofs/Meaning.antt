@@ -1,0 +1,149 @@
+-- THE SECOND DEMAND: "its physical value is the exact fraction or text, or none", and "a physical write stores the whole number nearest to what the
+-- conversion asks, halves away from zero, or is refused".
+use Prim.Native.Nat.{ℕ, zero, suc, _+_, _-_, _*_, _^_, _≤_, _<_}
+use mathlib.Core.Path.{_≡_, refl, sym, _∙_, ap, subst}
+use mathlib.Core.List.{List}
+use mathlib.Core.Bool.{Bool, true, false, cond, not, _&&_, false≢true}
+use mathlib.Core.Logic.{_↔_}
+use native.Mathlib.Omega.{arith}
+use borrow.Author.Tests.{eqb-true, eqb-false, eq-eqb, ne-eqb}
+use lib.Dec.{eqb}
+use lib.IntN.{ℤ, pos, negsuc, natAbs, _+ℤ_, _-ℤ_, _*ℤ_}
+use lib.ListN.{length, getD}
+use Rattle.number.specs.Answer.{Answer, given, refused}
+use Rattle.number.specs.Decimal.{Scaled}
+use Rattle.cell.specs.Kind.{shapeOf}
+use Rattle.cell.specs.Raw.{rawAt, fitsRaw}
+use Rattle.cell.proofs.Shapes.{bytes-le}
+use Rattle.cell.proofs.Laws.{raw-small}
+use Rattle.convert.specs.declared.method.Coefficients.{Coefficients}
+use Rattle.convert.specs.Whole.{allSmall}
+use Rattle.number.specs.Signed.{signedOf}
+use Rattle.convert.specs.Limit.{withinLimits}
+use Rattle.convert.specs.Method.{identicalOf, sameProducts, soundMethod}
+use Rattle.convert.specs.Fraction.{Value, none, number, turned, fraction, fractionOf}
+use Rattle.convert.specs.Round.{away, nearest, roundedQuotient, rawFor}
+use Rattle.convert.specs.Asked.{askedOf, nearestRaw, askedRaw}
+use Rattle.convert.proofs.Laws.{fraction-exact, stored-near, Stores, asked-stores}
+use Rattle.convert.proofs.Rounds.{half-away, quotient-none, quotient-is}
+use Rattle.tables.specs.Form.{methodSection, conversionCell, tableCell, lowerCell, upperCell, Tables, tablesIn, kind, first, mask, methodOf, limit, coefficients}
+use Rattle.tables.specs.Group.{groupOf, placeOf}
+use Rattle.tables.specs.Rule.{isVerbal, isFraction, signsRule, wordRule, fractionRule, verbalRule, methodRule, keepsRule}
+use Rattle.tables.proofs.All.{left, right, three, all-at}
+use Rattle.tables.proofs.Reading.{rule-facts, method-below}
+use Rattle.look.specs.Element.{textAt, meansBy, means, rawIn}
+use Rattle.look.specs.Calls.{Kept, groups, hasRoom, lentBy, After, physicalText, Request, request, groupIn, asksBy, isTabVerb, wantedRaw, judgedRequest, writing}
+use Rattle.list.proofs.Writes.{never, same-given, accepted, refused-answer}
+use Rattle.demands.proofs.Runs.{reads-as-written}
+use Rattle.demands.specs.Nearest.{over, under, TwiceOff, Nearest}
+
+-- ---- the value
+
+-- a raw number of an image of bytes is below 2^32 in size
+raw-is-small : (t image : List ℕ) (g i : ℕ) → ((j : ℕ) → getD image j 0 < 256) → natAbs (rawIn (tablesIn t) image g i) < 2 ^ 32
+unfolding rawIn
+raw-is-small t image g i b = raw-small (first (tablesIn t) g) (placeOf (tablesIn t) g i) (shapeOf (kind (tablesIn t) g)) (mask (tablesIn t) g) image (bytes-le (kind (tablesIn t) g)) b
+
+-- a method that is not verbal has coefficients that are small
+fraction-small : (T : Tables) (m : ℕ) → methodRule T m ≡ true → isVerbal (T .slots methodSection m conversionCell) ≡ false → allSmall (coefficients T m) ≡ true
+unfolding methodRule fractionRule soundMethod
+fraction-small T m h v =
+    let r : fractionRule T m ≡ true = rw v at h in
+    let a = isFraction (T .slots methodSection m conversionCell) && signsRule T m in
+    let w = wordRule (T .slots methodSection m conversionCell) (coefficients T m) in
+    let s = three a (soundMethod (coefficients T m)) w (left (a && soundMethod (coefficients T m) && w) (eqb (T .slots methodSection m tableCell) 0) r) in
+    left (allSmall (coefficients T m)) (not (sameProducts (coefficients T m))) (s .1)
+
+module _ (n m : ℕ) (t : List ℕ) (rule : keepsRule n m t ≡ true) (g : ℕ) (below : g < groups t) where
+  -- "IDENTICAL and NO_COMPU_METHOD are 1, 0, 0, 1", any other has its method's
+  plain-small : isTabVerb (tablesIn t) g ≡ false → (z : ℤ) → (means (tablesIn t) g z ≡ fractionOf (asksBy (tablesIn t) g) z) × (allSmall (asksBy (tablesIn t) g) ≡ true)
+  unfolding means meansBy asksBy isTabVerb allSmall
+  plain-small v z = go (eqb (methodOf (tablesIn t) g) 0) refl v
+    where
+      go : (b : Bool) → eqb (methodOf (tablesIn t) g) 0 ≡ b → (not b && isVerbal (tablesIn t .slots methodSection (methodOf (tablesIn t) g - 1) conversionCell)) ≡ false
+          → (cond b (fractionOf identicalOf z) (meansBy (tablesIn t) (methodOf (tablesIn t) g - 1) z) ≡ fractionOf (cond b identicalOf (coefficients (tablesIn t) (methodOf (tablesIn t) g - 1))) z)
+          × (allSmall (cond b identicalOf (coefficients (tablesIn t) (methodOf (tablesIn t) g - 1))) ≡ true)
+      go true e w = (refl, refl)
+      go false e w =
+          let l : methodOf (tablesIn t) g - 1 < tablesIn t .counts methodSection =
+          (let o : methodOf (tablesIn t) g ≡ 0 → ⊥ = eqb-false (methodOf (tablesIn t) g) 0 e in omega (arith, method-below n m t rule g below)) in
+          (rw w, fraction-small (tablesIn t) (methodOf (tablesIn t) g - 1) (all-at (tablesIn t .counts methodSection) (methodRule (tablesIn t)) (rule-facts n m t rule .of-methods) (methodOf (tablesIn t) g - 1) l) w)
+
+  -- "P = (f·INT − c)/(b − e·INT), both signs turned if the divisor is negative, not cancelled": what a raw number of the image means under a method that is not verbal
+  pub value-exact : isTabVerb (tablesIn t) g ≡ false → (image : List ℕ) → ((j : ℕ) → getD image j 0 < 256) → (i : ℕ)
+      → means (tablesIn t) g (rawIn (tablesIn t) image g i) ≡ fraction (asksBy (tablesIn t) g) (rawIn (tablesIn t) image g i)
+  value-exact v image b i =
+      let p = plain-small v (rawIn (tablesIn t) image g i) in
+      p .0 ∙ fraction-exact (asksBy (tablesIn t) g) (rawIn (tablesIn t) image g i) (p .1) (raw-is-small t image g i b)
+
+-- "Divisor 0: no value.", and a value for any other
+turned-none : (p d : ℤ) → (turned p d ≡ none) ↔ (d ≡ pos 0)
+turned-none p (pos zero) = (λ h. refl, λ h. refl)
+turned-none p (pos (suc d)) = (λ h. let z : _≡_ {A = ℕ} 0 1 = cc in absurd (omega arith), λ h. let z : _≡_ {A = ℕ} (suc d) 0 = cc in absurd (omega arith))
+turned-none p (negsuc d) = (λ h. let z : _≡_ {A = ℕ} 0 1 = cc in absurd (omega arith), λ h. let z : _≡_ {A = ℕ} 0 1 = cc in absurd (omega arith))
+
+pub none-exactly : (k : Coefficients) (z : ℤ) → (fraction k z ≡ none) ↔ (k .b -ℤ k .e *ℤ z ≡ pos 0)
+unfolding fraction
+none-exactly k z = turned-none (k .f *ℤ z -ℤ k .c) (k .b -ℤ k .e *ℤ z)
+
+-- ---- a physical write
+
+-- the judgement on the text is that on the asked value
+wants-asked : (T : Tables) (g : ℕ) (s : List ℕ) (z : ℤ) → wantedRaw T g (physicalText s) ≡ given z
+    → Stores (limit T g lowerCell) (limit T g upperCell) (asksBy T g) (shapeOf (kind T g)) (mask T g) s z
+wants-asked T g s z = go (isTabVerb T g)
+  where
+    go : (b : Bool) → cond (not b) (askedRaw (limit T g lowerCell) (limit T g upperCell) (asksBy T g) (shapeOf (kind T g)) (mask T g) s) (refused 15) ≡ given z
+        → Stores (limit T g lowerCell) (limit T g upperCell) (asksBy T g) (shapeOf (kind T g)) (mask T g) s z
+    go true h = absurd (never 15 z h)
+    go false h = asked-stores (limit T g lowerCell) (limit T g upperCell) (asksBy T g) (shapeOf (kind T g)) (mask T g) s z h
+
+-- the nearest raw number is a rounded quotient
+nearest-raw : (k : Coefficients) (p : Scaled) (z : ℤ) → nearestRaw away k p ≡ given z → rawFor away k (signedOf (p .negative) (p .whole)) (pos (10 ^ p .tens)) ≡ given z
+unfolding nearestRaw
+nearest-raw k p z = go (allSmall k)
+  where
+    go : (b : Bool) → cond b (rawFor away k (signedOf (p .negative) (p .whole)) (pos (10 ^ p .tens))) (refused 17) ≡ given z → rawFor away k (signedOf (p .negative) (p .whole)) (pos (10 ^ p .tens)) ≡ given z
+    go true h = h
+    go false h = absurd (never 17 z h)
+
+module _ (k : Coefficients) (p : Scaled) (z : ℤ) (h : rawFor away k (signedOf (p .negative) (p .whole)) (pos (10 ^ p .tens)) ≡ given z) where
+  some-under : under k p ≡ pos 0 → ⊥
+  unfolding rawFor
+  some-under e = never 17 z (quotient-none away (over k p) (under k p) e ∙ h)
+
+  is-nearest : nearest away (over k p) (under k p) ≡ z
+  unfolding rawFor
+  is-nearest = same-given (nearest away (over k p) (under k p)) z (quotient-is away (over k p) (under k p) some-under ∙ h)
+
+  goes-away : TwiceOff k p z ≡ natAbs (under k p) → natAbs (over k p) < natAbs (z *ℤ under k p)
+  goes-away =
+      subst (λ (y : ℤ). TwiceOff k p y ≡ natAbs (under k p) → natAbs (over k p) < natAbs (y *ℤ under k p)) is-nearest
+      (half-away (over k p) (under k p) some-under)
+
+stores-so : (T : Tables) (g : ℕ) (s : List ℕ) (z : ℤ) → wantedRaw T g (physicalText s) ≡ given z → Nearest T g s z
+stores-so T g s z h =
+    let a = wants-asked T g s z h in
+    let r = nearest-raw (asksBy T g) (a .asked) z (a .near) in
+    record {
+      asked = a .asked;
+      form = a .form;
+      within = a .within;
+      some = some-under (asksBy T g) (a .asked) z r;
+      near = stored-near away (asksBy T g) (signedOf (a .asked .negative) (a .asked .whole)) (pos (10 ^ a .asked .tens)) z r;
+      away = goes-away (asksBy T g) (a .asked) z r;
+      fits = a .fits;
+    }
+
+-- an accepted physical write of the text s to element i of a part p of object o: what the element then holds is nearest to what s asks
+pub stores-nearest : (t : List ℕ) (n base : ℕ) (k : Kept) (o p i : ℕ) (s : List ℕ) → ((j : ℕ) → getD (k .image) j 0 < 256)
+    → writing t n base k (request o p i (physicalText s)) .answer ≡ given tt
+    → Nearest (tablesIn t) (groupOf o p) s (rawIn (tablesIn t) (writing t n base k (request o p i (physicalText s)) .left .image) (groupOf o p) i)
+stores-nearest t n base k o p i s b h = go (judgedRequest t (lentBy n base k) (hasRoom t k) (request o p i (physicalText s))) refl
+  where
+    go : (a : Answer ℤ) → judgedRequest t (lentBy n base k) (hasRoom t k) (request o p i (physicalText s)) ≡ a
+        → Nearest (tablesIn t) (groupOf o p) s (rawIn (tablesIn t) (writing t n base k (request o p i (physicalText s)) .left .image) (groupOf o p) i)
+    go (given z) e =
+        subst (λ (y : ℤ). Nearest (tablesIn t) (groupOf o p) s y) (sym (reads-as-written t n base k (request o p i (physicalText s)) z e b))
+        (stores-so (tablesIn t) (groupOf o p) s z (accepted t (lentBy n base k) (hasRoom t k) (request o p i (physicalText s)) z e .wants))
+    go (refused c) e = absurd (never c (tt {0}) (sym (refused-answer t n base k (request o p i (physicalText s)) c e) ∙ h))

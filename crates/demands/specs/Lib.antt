@@ -1,0 +1,12 @@
+-- What the demands are about.
+pub mod Placed
+pub mod Leads
+pub mod Rules
+pub mod Nearest
+pub mod Verbal
+pub mod Runs
+pub mod Anew
+pub mod Frames
+pub mod Standing
+pub mod Powers
+pub mod Types

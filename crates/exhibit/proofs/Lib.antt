@@ -1,0 +1,2 @@
+-- What becomes of it, computed.
+pub mod Example

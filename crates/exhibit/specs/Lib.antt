@@ -1,0 +1,2 @@
+-- A description that is accepted.
+pub mod Example

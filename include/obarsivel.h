@@ -2,6 +2,9 @@
  *
  * Link libffi.a (rt staticlib ffi). x86-64, System V calling convention.
  *
+ * The rules are those of docs/RULES.md, by number: each function is the
+ * library's call, its answer told as a number (rule 13.1).
+ *
  * Every pointer is followed by its length in elements, points to that many
  * readable (const) or readable and writable elements of its type, and is
  * aligned for it. A length may be 0; the pointer must not be NULL even then.
@@ -9,16 +12,19 @@
  * is kept between calls, nothing is allocated, and calls on different buffers
  * may run at the same time.
  *
- * The same four things begin every call after the load, as they were at it:
+ * The same four things begin every call after the load, as they were at it
+ * (rules 6.1 and 9.9):
  *   text, text_len     the description, at most 16 MiB
  *   image, image_len   the image, at most 1 MiB; its bytes may have changed
  *   base               the address of the image's first byte;
  *                      base + image_len is at most 2^32
  *   tables, tables_len what obarsivel_load has filled, 36,617 cells or more
  *
- * Refusals. 20 comes first and leaves everything untouched. 22 comes next in
- * every call after the load. No refusal touches image or list. Each number has
- * a constant below, and its reason is worded as in docs/refusals.tsv:
+ * Refusals. 20 comes first and leaves everything untouched. 22, a table that
+ * breaks rules 11.1 to 11.10, comes next in every call after the load. No
+ * refusal touches image or list (rule 1.3). Each number has a constant below.
+ * Its reason is worded as in docs/refusals.tsv, and rules 12.1 to 12.22 say of
+ * each, by its number, where its place is and which rules it answers to:
  *    1 a token that the rules don't allow, or unclosed
  *    2 a number outside its form
  *    3 begin and end don't match, too deep, text ends early, or text after
@@ -65,7 +71,7 @@ extern "C" {
 #define OBARSIVEL_VERSION \
     (OBARSIVEL_VERSION_MAJOR * 65536 + OBARSIVEL_VERSION_MINOR * 256 + OBARSIVEL_VERSION_PATCH)
 
-/* The refusals' numbers. */
+/* The refusals' numbers: the last part of rules 12.1 to 12.22. */
 #define OBARSIVEL_REFUSED_TOKEN 1
 #define OBARSIVEL_REFUSED_NUMBER 2
 #define OBARSIVEL_REFUSED_BLOCKS 3
@@ -90,52 +96,55 @@ extern "C" {
 #define OBARSIVEL_REFUSED_TABLES 22
 
 /* The number and the place of a refused load, out of what obarsivel_load
- * answers. */
+ * answers (rule 13.2). */
 #define OBARSIVEL_LOAD_NUMBER(answer) ((uint32_t)((uint64_t)(answer) % 64))
 #define OBARSIVEL_LOAD_PLACE(answer) ((uint32_t)((uint64_t)(answer) / 64))
 
-/* Cells of the tables at full capacity, and cells that a load works in. */
+/* Cells of the tables at full capacity, and cells that a load works in
+ * (rule 6.6). */
 #define OBARSIVEL_TABLE_CELLS 36617
 #define OBARSIVEL_WORK_CELLS 42578
 
 /* The tables' cell that holds how many elements all objects have: the lines
- * that the list's four columns need. */
+ * that the list's four columns need (rule 6.7). */
 #define OBARSIVEL_ELEMENTS_CELL 3
 
-/* The most elements that all objects can have. */
+/* The most elements that all objects can have (rule 6.5). */
 #define OBARSIVEL_MOST_ELEMENTS 4096
 
-/* An object's parts. */
+/* An object's parts (rule 9.10). */
 #define OBARSIVEL_PART_X 0
 #define OBARSIVEL_PART_Y 1
 #define OBARSIVEL_PART_V 2
 
-/* States of a line: no physical value (first and second are 0); a fraction
- * first / second, not cancelled, second above 0; a text from byte first of the
- * description up to the one before second, quotes included. */
+/* States of a line (rule 10.3): no physical value (first and second are 0); a
+ * fraction first / second, not cancelled, second above 0; a text from byte
+ * first of the description up to the one before second, quotes included. */
 #define OBARSIVEL_STATE_NONE 0
 #define OBARSIVEL_STATE_NUMBER 1
 #define OBARSIVEL_STATE_TEXT 2
 
-/* The version of the archive that is linked.
+/* The version of the archive that is linked (rule 13.3).
  * Answers MAJOR * 65536 + MINOR * 256 + PATCH: OBARSIVEL_VERSION where header
  * and archive are of one version. */
 uint32_t obarsivel_version(void);
 
-/* Reads a description against an image.
+/* Reads a description against an image: accepted exactly if the rules are kept
+ * (rule 1.6), judged in the order of rules 9.2 to 9.7.
  *   tables  36,617 cells or more; any content before. Accepted: filled, cells
  *           past 36,617 zero. Refused: all zero, but with 20 untouched.
  *   work    42,578 cells or more; any content before; zero after, but with 20
  *           untouched. It need not be kept.
  * Answers 0 (accepted), or place * 64 + number with number 1 to 13 or 20
- * (OBARSIVEL_LOAD_NUMBER, OBARSIVEL_LOAD_PLACE). The place is the refusal's
- * first byte in the description (0 with 20). */
+ * (OBARSIVEL_LOAD_NUMBER, OBARSIVEL_LOAD_PLACE; rule 13.2). The place is the
+ * refusal's first byte in the description, 0 with 20 (rules 9.4 and 9.5). What
+ * tables and work hold after it: rule 9.8. */
 uint64_t obarsivel_load(const uint8_t *text, size_t text_len,
                         const uint8_t *image, size_t image_len, uint32_t base,
                         uint64_t *tables, size_t tables_len,
                         uint64_t *work, size_t work_len);
 
-/* Finds the first object that bears a name.
+/* Finds the first object that bears a name (rule 9.11).
  * Answers its number (objects count from 0 in text order), -1 if none bears
  * it, or -20, -22. */
 int64_t obarsivel_find(const uint8_t *text, size_t text_len,
@@ -143,8 +152,9 @@ int64_t obarsivel_find(const uint8_t *text, size_t text_len,
                        const uint64_t *tables, size_t tables_len,
                        const uint8_t *name, size_t name_len);
 
-/* Reads one element from the image.
- *   object, part, index  the element, all from 0
+/* Reads one element from the image (rule 9.12): its raw number and what it
+ * means (rules 8.1, 8.2, 8.5, 8.6 and 8.7).
+ *   object, part, index  the element, all from 0 (rule 9.10)
  *   out    5 cells or more; 0 to 4 become: raw value, state, first, second,
  *          what is shown (0 nothing, 1 the number in shown[0], 2 the text
  *          whose places are first and second)
@@ -160,10 +170,12 @@ uint32_t obarsivel_read(const uint8_t *text, size_t text_len,
                         int64_t *out, size_t out_len,
                         double *shown, size_t shown_len);
 
-/* Makes the value list: works out a line per element, objects in text order,
- * within each x points, y points, values, by index, x fastest in a map.
+/* Makes the value list (rules 9.13 and 10.1 to 10.3): works out a line per
+ * element, objects in text order, within each x points, y points, values, by
+ * index, x fastest in a map.
  *   raw, state, first, second  the four columns, each at least as many cells
- *          as the tables' element cell says; cells past that stay untouched
+ *          as the tables' element cell says (rule 6.7); cells past that stay
+ *          untouched (rule 10.5)
  * Answers 0, or 20, 22. */
 uint32_t obarsivel_make_list(const uint8_t *text, size_t text_len,
                              const uint8_t *image, size_t image_len, uint32_t base,
@@ -173,11 +185,13 @@ uint32_t obarsivel_make_list(const uint8_t *text, size_t text_len,
                              int64_t *first, size_t first_len,
                              int64_t *second, size_t second_len);
 
-/* Writes a raw value: type and mask are tested, limits are not. An accepted
- * write changes the element's bytes under its mask, and works out afresh every
- * line that shares a byte with it, and no other.
+/* Writes a raw value: type and mask are tested, limits are not (rules 8.3 and
+ * 8.10). An accepted write changes the element's bytes under its mask, and
+ * works out afresh every line that shares a byte with it, and no other (rules
+ * 1.11, 8.4 and 10.4).
  *   image  written; the columns as for obarsivel_make_list
- * Answers 0, or 20, 22, 14, 21, 19, 18, the first that holds in this order. */
+ * Answers 0, or 20, 22, 14, 21, 19, 18, the first that holds in this order
+ * (rules 9.14 to 9.16). */
 uint32_t obarsivel_write_raw(const uint8_t *text, size_t text_len,
                              uint8_t *image, size_t image_len, uint32_t base,
                              const uint64_t *tables, size_t tables_len,
@@ -189,12 +203,12 @@ uint32_t obarsivel_write_raw(const uint8_t *text, size_t text_len,
                              int64_t value);
 
 /* Writes the raw value nearest to an asked physical one, halves away from
- * zero; else as obarsivel_write_raw.
+ * zero (rules 8.8 to 8.12); else as obarsivel_write_raw.
  *   asked  a decimal: optional sign, 1 to 10 digits in all, an optional point
  *          with digits on both sides, at most 6 after it; its whole number,
  *          needless zeros dropped, at most 10^9. No blanks, no end mark.
  * Answers 0, or 20, 22, 14, 21, 19, 15, 16, 17, 18, the first that holds in
- * this order. */
+ * this order (rules 9.14 to 9.16). */
 uint32_t obarsivel_write_physical(const uint8_t *text, size_t text_len,
                                   uint8_t *image, size_t image_len, uint32_t base,
                                   const uint64_t *tables, size_t tables_len,
@@ -206,7 +220,8 @@ uint32_t obarsivel_write_physical(const uint8_t *text, size_t text_len,
                                   const uint8_t *asked, size_t asked_len);
 
 /* Prints the list: a header line, then a line per element (name, part, index,
- * raw, physical, parted by tabs, ended by LF; a none is "-").
+ * raw, physical, parted by tabs, ended by LF; a none is "-"): rules 9.17 and
+ * 10.6 to 10.8.
  *   raw, state, first, second  the columns as obarsivel_make_list and the
  *          writes leave them
  *   out    room for all of it; bytes past the printed ones stay untouched. A

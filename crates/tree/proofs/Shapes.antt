@@ -14,7 +14,7 @@ use Rattle.rows.specs.Row.{Param, name, string, whole, decimal, choice, new, po
 use Rattle.rows.specs.Rows.{rows}
 use Rattle.rows.specs.Numbered.{rowAt}
 use Rattle.grammar.specs.Keyword.{rowFrom, rowOf, isRow}
-use Rattle.facts.proofs.Tests.{implied}
+use Rattle.facts.proofs.Tests.{every, implied}
 use Rattle.tree.specs.Tree.{Among}
 
 -- a parameter of one of the forms
@@ -105,6 +105,12 @@ forms (q ∷ qs) h = by-case (or-case (isForm q && areForms qs) (isPaired q qs) 
 
 -- ---- a row
 
+-- a test of each holds of one of them
+pub every-among : {A : Type 0} (t : A → Bool) (l : List A) → every t l ≡ true → (a : A) → Among a l → t a ≡ true
+every-among t [] h a m = absurd m
+every-among t (b ∷ bs) h a (inl e) = rw e (and-left (t b) (every t bs) h)
+every-among t (b ∷ bs) h a (inr m) = every-among t bs (and-right (t b) (every t bs) h) a m
+
 -- its parameters have forms; a small word opens a block, a great one is passed, another does neither; before PROJECT only PROJECT and great ones
 pub record Shaped (r : Row) : Type 0 where
   pub filled : Forms (r .params)
@@ -138,21 +144,12 @@ shaped r h =
       other : eqb (r .opens) outside ≡ false → (eqb (r .opens) outside || eqb (r .opens) plain) ≡ true → eqb (r .opens) plain ≡ true
       other u t = rw u at t
 
-abbrev areShaped : List Row → Bool
-areShaped [] = true
-areShaped (r ∷ rs) = isShaped r && areShaped rs
-
-all-shaped : areShaped rows ≡ true
+all-shaped : every isShaped rows ≡ true
 unfolding rows
 all-shaped = refl
 
-shaped-in : (rs : List Row) → areShaped rs ≡ true → (r : Row) → Among r rs → Shaped r
-shaped-in [] h r m = absurd m
-shaped-in (s ∷ rs) h r (inl e) = rw e (shaped s (and-left (isShaped s) (areShaped rs) h))
-shaped-in (s ∷ rs) h r (inr m) = shaped-in rs (and-right (isShaped s) (areShaped rs) h) r m
-
 pub row-shaped : (r : Row) → Among r rows → Shaped r
-row-shaped = shaped-in rows all-shaped
+row-shaped r m = shaped r (every-among isShaped rows all-shaped r m)
 
 -- ---- the row that a search finds
 

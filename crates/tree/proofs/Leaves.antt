@@ -2,6 +2,7 @@
 --     Left      parameters that make no record write slots of the current record: which, and how small their numbers may be
 --     Named     the parameters of a block with a name make a record first
 --     Aside     parameters change no section but their own and that of the entries
+--     count-left, stands-good     a keyword is counted, and keeps the records' form
 use Prim.Native.Nat.{ℕ, suc, _+_, _-_, _≤_, _<_}
 use mathlib.Core.Path.{_≡_, refl, sym, _∙_, ap}
 use mathlib.Core.List.{List, [], _∷_}
@@ -13,19 +14,20 @@ use lib.Dec.{eqb, ltb, leb}
 use lib.ListN.{length, take}
 use Rattle.text.specs.Answer as piece
 use Rattle.text.proofs.Within.{by-test, and-left, and-right}
-use Rattle.records.specs.Records.{widthOf, mostOf, count, slot}
-use Rattle.records.proofs.Encode.{Good}
+use Rattle.records.specs.Records.{widthOf, mostOf, count, slot, add}
+use Rattle.records.proofs.Encode.{Good, good-add}
 use Rattle.rows.specs.Sections.{sections, none, entry}
-use Rattle.rows.specs.Row.{Param, whole}
+use Rattle.rows.specs.Row.{Param, whole, Row}
+use Rattle.rows.specs.Rows.{keeps}
 use Rattle.grammar.specs.Move.{writes, applied}
 use Rattle.grammar.specs.Parameter.{signOf, newRecord}
 use Rattle.grammar.specs.declared.state.Act.{Act}
 use Rattle.grammar.proofs.Cells.{good-applied}
 use Rattle.facts.proofs.Moves.{wideOf}
 use Rattle.facts.proofs.Slots.{count-puts, clear-slot, other-slot, written-slot, same-count}
-use Rattle.tree.specs.Tree.{Records, written, kept, appended, Parameter, takesName, takesString, takesWhole, takesDecimal, takesChoice, takesNew, takesPoints, takesAlignment, takesNought, takesUpper, Pairs, pair, Parameters, next, many}
+use Rattle.tree.specs.Tree.{Records, current, written, kept, appended, Parameter, takesName, takesString, takesWhole, takesDecimal, takesChoice, takesNew, takesPoints, takesAlignment, takesNought, takesUpper, Pairs, pair, Parameters, next, many, counted, Stands}
 use Rattle.tree.specs.Tree as tree
-use Rattle.tree.proofs.Acts.{applied-writes, applied-new}
+use Rattle.tree.proofs.Acts.{add-none, applied-writes, applied-new}
 use Rattle.tree.proofs.Steps.{token-lies}
 use Rattle.tree.proofs.Filled.{four-least}
 
@@ -170,6 +172,9 @@ first-left q qs j d d₁ d′ f r = record {
 none-left : (j : ℕ) (d : Records) → Left [] j d d
 none-left j d = record { counts = λ j′. refl; good = λ g. g; same = λ j′ i k h. refl; least = λ g i k m l w h. h }
 
+pub one-left : (q : Param) (j : ℕ) (d d′ : Records) → Kept q j d d′ → Left (q ∷ []) j d d′
+one-left q j d d′ f = first-left q [] j d d′ d′ f (none-left j d′)
+
 -- ---- the parameters of the tree
 
 -- neither a new record's name nor how many pairs follow
@@ -305,7 +310,7 @@ both-aside j d d₁ d′ p q = record {
 
 kept-aside : (q : Param) (j : ℕ) (d d′ : Records) → Kept q j d d′ → Aside j d d′
 kept-aside q j d d′ f =
-    let l : Left (q ∷ []) j d d′ = first-left q [] j d d′ d′ f (none-left j d′) in
+    let l : Left (q ∷ []) j d d′ = one-left q j d d′ f in
     record { counts = λ j′ u v. l .counts j′; good = l .good; same = λ j′ i k u v. l .same j′ i k (λ p. absurd (u p)) }
 
 -- an act on one section
@@ -350,3 +355,20 @@ module _ (x : List ℕ) (b j : ℕ) where
       both-aside j d (kept j s (n ∷ []) d) d′
       (kept-aside (whole s 0 0) j d (kept j s (n ∷ []) d) (record { a = n; b = 0; c = 0; is = refl; low = λ u. omega arith; past = λ u. absurd (omega arith) }))
       (entry-aside j (kept j s (n ∷ []) d) d′ (pairs-aside ps))
+
+-- ---- a keyword: its count, and its parameters
+
+-- it is counted after it got a record where its row says so
+pub count-left : (d : Records) (r : Row) → Left (whole (r .once) 1 0 ∷ []) (r .sec) (add sections d (r .adds)) (counted r d)
+unfolding wideOf counted
+count-left d r =
+    one-left (whole (r .once) 1 0) (r .sec) (add sections d (r .adds)) (counted r d)
+    (record { a = current d (r .sec) (r .once) + 1; b = 0; c = 0; is = refl; low = λ u. omega arith; past = λ u. absurd (omega arith) })
+
+-- one that is not counted and makes no record
+pub counted-none : (d : Records) (r : Row) → eqb (r .adds) none ≡ true → eqb (r .once) 0 ≡ true → counted r d ≡ d
+unfolding counted kept
+counted-none d r a o = rw (eqb-true (r .adds) none a, o, add-none d)
+
+pub stands-good : (x : List ℕ) (home b : ℕ) (r : Row) (k : ℕ) (d : Records) (k′ : ℕ) (d′ : Records) → Stands x home b r k d k′ d′ → k ≤ length x → Good sections d → Good sections d′
+stands-good x home b r k d k′ d′ s l g = filled-aside x b (keeps r) (s .filled) l .good (count-left d r .good (good-add sections 0 d g (r .adds)))

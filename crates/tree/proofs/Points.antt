@@ -41,7 +41,7 @@ use Rattle.tree.proofs.Acts.{add-none}
 use Rattle.tree.proofs.Steps.{token-lies}
 use Rattle.tree.proofs.Sound.{accepted-is}
 use Rattle.tree.proofs.RowKinds.{allTrue, fact, inObject, inAxis, isLoose, writtenOf, pairTest, awayTests, objectTests, detailTests, namedTests, axisTests, Kind, isAway, isObject, isDetail, isNew, isAxis, kind-of, away-not}
-use Rattle.tree.proofs.Leaves.{untouched, leastOf, arePlain, holds, rest, first-left, Left, Named, Aside, filled-ends, filled-left, filled-named, filled-aside}
+use Rattle.tree.proofs.Leaves.{untouched, leastOf, arePlain, holds, rest, first-left, Left, Named, Aside, filled-ends, filled-left, filled-named, filled-aside, counted-none}
 
 -- ---- what holds between keywords, whatever block is open
 
@@ -129,11 +129,6 @@ counted-act d r = turn (eqb (r .once) 0) where
       ≡ puts more (r .sec) (count more (r .sec) - 1) (r .once) (take (cond t 0 1) ((current d (r .sec) (r .once) + 1) ∷ 0 ∷ 0 ∷ 0 ∷ []))
   turn true = refl
   turn false = refl
-
--- one that is not counted and makes no record
-counted-none : (d : Records) (r : Row) → eqb (r .adds) none ≡ true → eqb (r .once) 0 ≡ true → counted r d ≡ d
-unfolding counted kept
-counted-none d r a o = rw (eqb-true (r .adds) none a, o, add-none d)
 
 module _ (x : List ℕ) (home b : ℕ) (r : Row) (k : ℕ) (d : Records) (k′ : ℕ) (d′ : Records) (s : Stands x home b r k d k′ d′) (l : k ≤ length x) where
   -- a row that goes elsewhere

@@ -13,6 +13,7 @@ pub mod Values
 pub mod Sound
 pub mod Accepted
 pub mod Leaves
+pub mod InSection
 pub mod Along
 pub mod RowKinds
 pub mod Points

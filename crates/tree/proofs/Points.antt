@@ -5,7 +5,7 @@ use mathlib.Core.List.{List, [], _∷_}
 use mathlib.Core.Bool.{Bool, true, false, cond, not, _&&_, _||_, false≢true}
 use mathlib.Core.Logic.{_⊎_, inl, inr}
 use native.Mathlib.Omega.{arith}
-use borrow.Author.Tests.{eqb-true, eqb-false, eq-eqb, leb-true, not-true}
+use borrow.Author.Tests.{eqb-true, eq-eqb, leb-true, not-true}
 use lib.Dec.{eqb, leb}
 use lib.ListN.{length, getD, take, List·getD-eq-default}
 use Rattle.text.specs.Answer as piece
@@ -42,6 +42,7 @@ use Rattle.tree.proofs.Steps.{token-lies}
 use Rattle.tree.proofs.Sound.{accepted-is}
 use Rattle.tree.proofs.RowKinds.{allTrue, fact, inObject, inAxis, isLoose, writtenOf, pairTest, awayTests, objectTests, detailTests, namedTests, axisTests, Kind, isAway, isObject, isDetail, isNew, isAxis, kind-of, away-not}
 use Rattle.tree.proofs.Leaves.{untouched, leastOf, arePlain, holds, rest, first-left, Left, Named, Aside, filled-ends, filled-left, filled-named, filled-aside, counted-none}
+use Rattle.tree.proofs.InSection.{by-last}
 
 -- ---- what holds between keywords, whatever block is open
 
@@ -67,13 +68,6 @@ Referred d a = slot d axis a axis-attribute ≡ COM-AXIS → 1 ≤ slot d axis a
 record Needs (b : ℕ) (d : Records) : Type 0 where
   objects : (i : ℕ) → (inObject b ≡ true → suc i ≡ count d object → ⊥) → Whole d i
   axes : (a : ℕ) → (inAxis b ≡ true → suc a ≡ count d axis → ⊥) → Referred d a
-
--- by whether it is the last record
-by-last : (d : Records) (j : ℕ) (P : ℕ → Type 0) (i : ℕ) → (suc i ≡ count d j → P i) → ((suc i ≡ count d j → ⊥) → P i) → P i
-by-last d j P i f h = turn (eqb (suc i) (count d j)) refl where
-  turn : (u : Bool) → eqb (suc i) (count d j) ≡ u → P i
-  turn true u = f (eqb-true (suc i) (count d j) u)
-  turn false u = h (eqb-false (suc i) (count d j) u)
 
 -- past the last record there are zeros
 past-slot : (d : Records) (j i k : ℕ) → count d j ≤ i → slot d j i k ≡ 0

@@ -15,6 +15,7 @@ pub mod Accepted
 pub mod Leaves
 pub mod InSection
 pub mod Along
+pub mod SlotLaws
 pub mod RowKinds
 pub mod Points
 pub mod Examples

@@ -150,7 +150,7 @@ pub record Kept (q : Param) (j : ℕ) (d d′ : Records) : Type 0 where
   pub past : wideOf (q .kind) ≡ 2 → 1 ≤ b
 
 -- it comes first, and then the others
-pub first-left : (q : Param) (qs : List Param) (j : ℕ) (d d₁ d′ : Records) → Kept q j d d₁ → Left qs j d₁ d′ → Left (q ∷ qs) j d d′
+first-left : (q : Param) (qs : List Param) (j : ℕ) (d d₁ d′ : Records) → Kept q j d d₁ → Left qs j d₁ d′ → Left (q ∷ qs) j d d′
 first-left q qs j d d₁ d′ f r = record {
   counts = λ j′. r .counts j′ ∙ first-counts j′;
   good = λ g. r .good (first-good g);

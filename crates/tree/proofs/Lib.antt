@@ -17,5 +17,6 @@ pub mod InSection
 pub mod Along
 pub mod SlotLaws
 pub mod RowKinds
+pub mod Objects
 pub mod Points
 pub mod Examples

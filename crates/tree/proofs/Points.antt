@@ -6,21 +6,29 @@ use mathlib.Core.Logic.{inl, inr}
 use native.Mathlib.Omega.{arith}
 use Rattle.text.specs.Answer.{given}
 use Rattle.records.specs.Records.{slot}
-use Rattle.rows.specs.Codes.{AXIS-DESCR, COM-AXIS}
-use Rattle.rows.specs.Sections.{sections, object, axis}
-use Rattle.rows.specs.Slots.{number-seen, number-of-values, axis-attribute, axis-max-points, axis-pts-ref-seen, axis-pts-ref-past}
+use Rattle.rows.specs.Codes.{COMPU-METHOD, AXIS-DESCR, TAB-VERB, COM-AXIS}
+use Rattle.rows.specs.Sections.{sections, method, object, axis}
+use Rattle.rows.specs.Slots.{conversion-type, compu-tab-ref-seen, compu-tab-ref-past, object-conversion-past, number-seen, number-of-values, axis-attribute, axis-conversion-past, axis-max-points, axis-pts-ref-seen, axis-pts-ref-past}
 use Rattle.rows.specs.Rows.{rows, needed}
 use Rattle.grammar.specs.Read.{read}
 use Rattle.facts.proofs.Moves.{wideOf}
 use Rattle.tree.specs.Tree.{Records}
 use Rattle.tree.specs.Points.{Pointed}
-use Rattle.tree.proofs.SlotLaws.{objects, axes, Filled, Paired, read-filled, read-paired, read-needed}
+use Rattle.tree.proofs.SlotLaws.{methods, objects, axes, Filled, Paired, read-filled, read-paired, read-needed}
 use Rattle.tree.proofs.Objects.{Sound, Whole, read-objects}
 
 module _ (x : List ℕ) (d : Records) (r : read x ≡ given d) where
   numbers : Paired object number-seen number-of-values d
   unfolding rows sections wideOf
   numbers = read-paired object number-seen number-of-values (omega arith) x objects refl d r
+
+  conversions : Filled object object-conversion-past d
+  unfolding rows sections wideOf
+  conversions = read-filled object object-conversion-past (omega arith) x objects refl d r
+
+  axis-conversions : Filled axis axis-conversion-past d
+  unfolding rows sections wideOf
+  axis-conversions = read-filled axis axis-conversion-past (omega arith) x axes refl d r
 
   axis-points : Filled axis axis-max-points d
   unfolding rows sections wideOf
@@ -32,6 +40,12 @@ module _ (x : List ℕ) (d : Records) (r : read x ≡ given d) where
       read-paired axis axis-pts-ref-seen axis-pts-ref-past (omega arith) x axes refl d r a
       (read-needed AXIS-DESCR axis axis-attribute COM-AXIS axis-pts-ref-seen x axes (inr (inr (inr (inr (inr (inr (inr (inl refl)))))))) refl refl (omega arith) d r a e)
 
+  table-references : (m : ℕ) → slot d method m conversion-type ≡ TAB-VERB → 1 ≤ slot d method m compu-tab-ref-past
+  unfolding rows needed sections wideOf
+  table-references m e =
+      read-paired method compu-tab-ref-seen compu-tab-ref-past (omega arith) x methods refl d r m
+      (read-needed COMPU-METHOD method conversion-type TAB-VERB compu-tab-ref-seen x methods (inr (inr (inr (inl refl)))) refl refl (omega arith) d r m e)
+
   pub read-pointed : Pointed d
   read-pointed =
       let s : Sound d = read-objects x d r .0 in
@@ -42,4 +56,7 @@ module _ (x : List ℕ) (d : Records) (r : read x ≡ given d) where
         axisPoints = axis-points;
         axes = λ i e. omega (arith, s .spans i, whole i e .1);
         references = axis-references;
+        converted = conversions;
+        axisConverted = axis-conversions;
+        tabled = table-references;
       }

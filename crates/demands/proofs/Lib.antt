@@ -5,6 +5,11 @@ pub mod Third
 pub mod Runs
 pub mod Searched
 pub mod Lengths
+pub mod Ordering
+pub mod Roles
+pub mod Layouts
+pub mod Coming
+pub mod Starting
 pub mod Placing
 pub mod Leading
 pub mod Ruling

@@ -1,11 +1,11 @@
 -- The rules of the stages after the text as sentences, and as the stages judge them: the same (`keeps`, Accepted).
-use Prim.Native.Nat.{ℕ, _+_, _-_, _*_, _^_, _≤_, _<_}
-use mathlib.Core.Path.{_≡_, refl, sym, _∙_, ap, subst}
+use Prim.Native.Nat.{ℕ, _+_, _*_, _^_, _≤_, _<_}
+use mathlib.Core.Path.{_≡_, refl, subst}
 use mathlib.Core.List.{List}
 use mathlib.Core.Bool.{Bool, true, false, not, _&&_, _||_, false≢true}
 use native.Mathlib.Omega.{arith}
-use borrow.Author.Tests.{eqb-true, eqb-false, eq-eqb, ne-eqb, ltb-true, lt-ltb, le-leb}
-use lib.Dec.{eqb, ltb, leb}
+use borrow.Author.Tests.{eqb-false, ne-eqb, ltb-true, lt-ltb, le-leb}
+use lib.Dec.{eqb, ltb}
 use lib.ListN.{length}
 use Rattle.text.proofs.Within.{and-left, and-right}
 use Rattle.number.specs.Answer.{Answer, given, refused}
@@ -29,9 +29,8 @@ use Rattle.tree.specs.Tree.{Records, Description}
 use Rattle.keeps.specs.Accepted.{Accepted}
 use Rattle.keeps.specs.Stands.{Part, points-x, points-y, values, needed, addressOf, typeOf, acrossOf, downOf}
 use Rattle.keeps.proofs.Bits.{and}
-use Rattle.keeps.proofs.Groups.{InsideAll, inside-all}
+use Rattle.keeps.proofs.Groups.{inside-all}
 use Rattle.demands.specs.Rules.{MaskKeeps, ObjectKeeps, Keeps}
-use Rattle.demands.specs.Placed.{Placed}
 use Rattle.demands.proofs.Placing.{placed-exactly}
 use Rattle.demands.proofs.Leading.{leads-exactly}
 
@@ -111,19 +110,29 @@ module _ (image : List ℕ) (base : ℕ) (x : List ℕ) (d : Records) where
       let r = given-of (placement (groundOf x (view d) base i) (needOf image base x (view d) i) image (layoutOf x (view d) i)) (a .places i l) in
       record {
         mask = fits-masked x (view d) i (a .masks i l);
-        reached = r .0;
-        placed = placed-exactly (groundOf x (view d) base i) (needOf image base x (view d) i) image (layoutOf x (view d) i) (r .0) .0 (r .1);
+        places = r .0 .places;
+        placed = placed-exactly (groundOf x (view d) base i) (needOf image base x (view d) i) image (layoutOf x (view d) i) (r .0 .places) .0 (r .0, r .1, refl);
         bytes = inside-bytes image base (needOf image base x (view d) i) (layoutOf x (view d) i) (r .0 .places)
             (subst (λ (q : Answer Reached). allInside image base (needOf image base x (view d) i) (layoutOf x (view d) i) (placesIn q) ≡ true) (r .1) (a .bytes i l));
       }
 
   module _ (i : ℕ) (k : ObjectKeeps image base x (view d) i) where
-    pub object-placed : placement (groundOf x (view d) base i) (needOf image base x (view d) i) image (layoutOf x (view d) i) ≡ given (k .reached)
-    object-placed = placed-exactly (groundOf x (view d) base i) (needOf image base x (view d) i) image (layoutOf x (view d) i) (k .reached) .1 (k .placed)
+    abbrev answer : Answer Reached
+    answer = placement (groundOf x (view d) base i) (needOf image base x (view d) i) image (layoutOf x (view d) i)
+
+    reaches : (t : Reached) × (answer ≡ given t) × (t .places ≡ k .places)
+    reaches = placed-exactly (groundOf x (view d) base i) (needOf image base x (view d) i) image (layoutOf x (view d) i) (k .places) .1 (k .placed)
+
+    object-placed : isGiven answer ≡ true
+    object-placed = rw (reaches .1)
+
+    -- where object i's parts stand: the rules leave no other places
+    pub places-are : placesOf image base x (view d) i ≡ k .places
+    unfolding placesOf
+    places-are = rw (reaches .1) (reaches .2)
 
     object-bytes : allInside image base (needOf image base x (view d) i) (layoutOf x (view d) i) (placesOf image base x (view d) i) ≡ true
-    unfolding placesOf
-    object-bytes = rw object-placed (bytes-inside image base (needOf image base x (view d) i) (layoutOf x (view d) i) (k .reached .places) (k .bytes))
+    object-bytes = rw places-are (bytes-inside image base (needOf image base x (view d) i) (layoutOf x (view d) i) (k .places) (k .bytes))
 
 -- as the stages judge
 pub keeps-accepted : (x image : List ℕ) (base : ℕ) (k : Keeps x image base) → Accepted image base x (k .records)
@@ -132,7 +141,7 @@ keeps-accepted x image base k =
       references = λ r m i l z. leads-exactly x (view (k .records)) r (slot (k .records) (r .sec) i (r .slot)) (slot (k .records) (r .sec) i (r .slot + 1)) .1 (k .references r m i l z);
       conversions = k .conversions;
       masks = λ i l. masked-fits x (view (k .records)) i (k .objects i l .mask);
-      places = λ i l. rw (object-placed image base x (k .records) i (k .objects i l)) refl;
+      places = λ i l. object-placed image base x (k .records) i (k .objects i l);
       bytes = λ i l. object-bytes image base x (k .records) i (k .objects i l);
       elements = k .elements;
     }

@@ -15,7 +15,7 @@ use Rattle.cell.specs.declared.kind.Shape.{Shape}
 use Rattle.refer.specs.Refer.{referenceRows}
 use Rattle.refer.specs.declared.Row.{Row}
 use Rattle.methods.specs.Methods.{coefficients}
-use Rattle.place.specs.declared.walk.Reached.{Reached}
+use Rattle.place.specs.declared.walk.Places.{Places}
 use Rattle.objects.specs.Object.{layoutOf, groundOf, needOf}
 use Rattle.tree.specs.Tree.{Among, Records, Description}
 use Rattle.keeps.specs.Accepted.{allElements}
@@ -43,12 +43,11 @@ pub record ObjectKeeps (image : List ℕ) (base : ℕ) (x : List ℕ) (v : View)
   -- where it has a mask, the mask keeps its rule
   pub mask : (v .slots object i bit-mask-seen ≡ 0 → ⊥) → MaskKeeps (shapeOf (layoutOf x v i .values .kind)) (v .slots object i bit-mask)
   -- its layout places its parts (11), and stored counts are read from the image (12, 13)
-  pub reached : Reached
-  pub placed : Placed (groundOf x v base i) (needOf image base x v i) image (layoutOf x v i) reached
+  pub places : Places
+  pub placed : Placed (groundOf x v base i) (needOf image base x v i) image places (layoutOf x v i)
   -- "a byte outside the image" (12): every part's elements are inside
   pub bytes : (p : Part) → needed (needOf image base x v i) p ≡ true
-      → (base ≤ addressOf (reached .places) p)
-      × (addressOf (reached .places) p + shapeOf (typeOf (layoutOf x v i) p) .bytes * (acrossOf (reached .places) p * downOf (reached .places) p) ≤ base + length image)
+      → (base ≤ addressOf places p) × (addressOf places p + shapeOf (typeOf (layoutOf x v i) p) .bytes * (acrossOf places p * downOf places p) ≤ base + length image)
 
 -- "A description with its image .. keeps the written rules": the text x has a tree of the grammar, and the records that the tree makes keep the rules
 pub record Keeps (x image : List ℕ) (base : ℕ) : Type 0 where

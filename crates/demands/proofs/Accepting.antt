@@ -1,10 +1,10 @@
 -- THE SECOND DEMAND: "A description with its image is accepted exactly if it keeps the written rules."
 --     accepted-exactly      a load is accepted exactly if what is lent is large enough and the description with its image keeps the rules
 --     accepted-leaves       what the lent tables and the lent work then hold
-use Prim.Native.Nat.{ℕ, _+_, _^_, _≤_}
-use mathlib.Core.Path.{_≡_, refl, sym, _∙_, ap}
+use Prim.Native.Nat.{ℕ, _+_, _^_}
+use mathlib.Core.Path.{_≡_, refl, ap}
 use mathlib.Core.List.{List}
-use mathlib.Core.Bool.{Bool, true, false, _&&_}
+use mathlib.Core.Bool.{Bool, true, _&&_}
 use mathlib.Core.Logic.{_↔_}
 use native.Mathlib.Omega.{arith}
 use borrow.Author.Tests.{le-leb, leb-true}
@@ -20,9 +20,9 @@ use Rattle.tables.specs.Form.{tableSections}
 use Rattle.tables.specs.Sizes.{sizesFit}
 use Rattle.load.specs.Load.{described, Loaded, left, loaded}
 use Rattle.load.proofs.LoadLaws.{work-room}
-use Rattle.tree.specs.Tree.{Records, Description}
+use Rattle.tree.specs.Tree.{Records}
 use Rattle.tree.proofs.Accepted as text
-use Rattle.keeps.specs.Accepted.{allElements, Accepted, Taken}
+use Rattle.keeps.specs.Accepted.{allElements, Taken}
 use Rattle.keeps.proofs.Bits.{and}
 use Rattle.keeps.proofs.Exactly.{accepted-is, accepted-given}
 use Rattle.demands.specs.Rules.{Fits, Keeps}

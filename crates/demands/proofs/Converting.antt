@@ -1,24 +1,21 @@
 -- THE SECOND DEMAND: "its physical value is the exact fraction", by the method that the description names.
 --     method-held         a method of the description keeps its coefficients in the tables of an accepted load
---     value-described     what an element of an accepted load means: P = (f·INT − c)/(b − e·INT) by the method named for its part
---     value-identical     and by 1, 0, 0, 1 under NO_COMPU_METHOD
-use Prim.Native.Nat.{ℕ, zero, suc, _+_, _-_, _*_, _≤_, _<_, min}
-use mathlib.Core.Path.{_≡_, refl, sym, _∙_, ap, subst}
-use mathlib.Core.List.{List, [], _∷_}
-use mathlib.Core.Bool.{Bool, true, false, cond, not, _&&_}
+--     asks-some, asks-none     and so a group whose method it is is asked by them, one without a method by 1, 0, 0, 1
+use Prim.Native.Nat.{ℕ, suc, _-_, _≤_, _<_, min}
+use mathlib.Core.Path.{_≡_, refl, sym, ap, subst}
+use mathlib.Core.List.{List}
+use mathlib.Core.Bool.{true, false, not, _&&_}
 use native.Mathlib.Omega.{arith}
-use borrow.Author.Tests.{leb-true, ne-eqb, eq-eqb}
+use borrow.Author.Tests.{leb-true, ne-eqb}
 use lib.Dec.{eqb}
 use lib.IntN.{ℤ, pos, negsuc, negℤ, natAbs}
-use lib.ListN.{length, getD}
-use Rattle.text.specs.Answer as text
+use lib.ListN.{getD}
 use Rattle.text.proofs.Within.{by-test, and-left, and-right}
 use Rattle.number.specs.Answer.{given}
 use Rattle.number.specs.Form.{isGiven}
 use Rattle.convert.specs.Whole.{small, allSmall}
 use Rattle.number.specs.Signed.{signedOf}
 use Rattle.convert.specs.Method.{identicalOf, sameProducts, soundMethod}
-use Rattle.convert.specs.Fraction.{fraction}
 use Rattle.convert.specs.declared.method.Coefficients.{Coefficients}
 use Rattle.records.specs.Records.{count, slot}
 use Rattle.rows.specs.Codes.{LINEAR, RAT-FUNC, TAB-VERB}
@@ -26,27 +23,17 @@ use Rattle.rows.specs.Sections as records
 use Rattle.rows.specs.Slots.{conversion-type}
 use Rattle.grammar.specs.Move.{View, view}
 use Rattle.methods.specs.Methods as methods
-use Rattle.objects.specs.Object.{needOf}
-use Rattle.facts.proofs.Keeps.{read-keeps}
-use Rattle.build.specs.Build.{flag, isBelow, coefficientsIn, conversionOf, fractionRow, methodIn, methodRow, built}
-use Rattle.build.proofs.BuiltLaws.{Within, within-of, built-good, count-groups, slot-method}
-use Rattle.tables.specs.Form.{methodSection, groupSection, conversionCell, bCell, cCell, eCell, fCell, Tables, tablesOf, tablesIn, methodOf, coefficient, coefficients}
-use Rattle.tables.specs.Group.{groupOf}
+use Rattle.build.specs.Build.{flag, isBelow, coefficientsIn, conversionOf, fractionRow, methodRow, built}
+use Rattle.build.proofs.BuiltLaws.{Within, slot-method}
+use Rattle.tables.specs.Form.{methodSection, conversionCell, bCell, cCell, eCell, fCell, Tables, tablesOf, tablesIn, methodOf, coefficient, coefficients}
 use Rattle.tables.specs.Rule.{isVerbal}
-use Rattle.tables.proofs.Cells.{tables-encode}
-use Rattle.load.specs.Load.{Loaded, loaded}
-use Rattle.tree.proofs.Accepted as tree
+use Rattle.load.specs.Load.{loaded}
+use Rattle.tree.specs.Tree.{Records}
 use Rattle.keeps.specs.Accepted.{allElements}
-use Rattle.keeps.specs.Stands.{Part, points-x, points-y, values, numberOf, needed}
 use Rattle.keeps.proofs.Rows.{coefficients-sound}
-use Rattle.keeps.proofs.Rule.{loaded-keeps}
-use Rattle.look.specs.Element.{means, rawIn}
-use Rattle.look.specs.Calls.{groups, asksBy, isTabVerb}
+use Rattle.look.specs.Calls.{asksBy, isTabVerb}
 use Rattle.demands.specs.Rules.{Fits, Keeps}
-use Rattle.demands.specs.Standing.{sourceOf}
-use Rattle.demands.proofs.Accepting.{accepted-leaves, accepted-exactly}
-use Rattle.demands.proofs.Standing.{part-held}
-use Rattle.demands.proofs.Meaning.{value-exact}
+use Rattle.demands.proofs.Loaded.{within, same}
 
 -- a whole number's two cells give it back
 signed-back : (z : ℤ) → natAbs z ≤ 1000000000 → signedOf (eqb (flag (isBelow z)) 1) (min (natAbs z) 1000000001) ≡ z
@@ -110,74 +97,29 @@ module _ (T : Tables) (g : ℕ) where
   one-less : (m : ℕ) → suc m - 1 ≡ m
   one-less m = omega arith
 
-  verbal-not : (m : ℕ) → methodOf T g ≡ suc m → isVerbal (T .slots methodSection m conversionCell) ≡ false → isTabVerb T g ≡ false
+  pub verbal-not : (m : ℕ) → methodOf T g ≡ suc m → isVerbal (T .slots methodSection m conversionCell) ≡ false → isTabVerb T g ≡ false
   unfolding isTabVerb
   verbal-not m u v = rw (u, one-less m, v, ne-eqb (suc m) 0 (λ z. omega arith))
 
-  asks-some : (m : ℕ) → methodOf T g ≡ suc m → (c : Coefficients) → coefficients T m ≡ c → asksBy T g ≡ c
+  pub asks-some : (m : ℕ) → methodOf T g ≡ suc m → (c : Coefficients) → coefficients T m ≡ c → asksBy T g ≡ c
   unfolding asksBy
   asks-some m u c v = rw (u, one-less m, ne-eqb (suc m) 0 (λ z. omega arith)) v
 
-  verbal-none : methodOf T g ≡ 0 → isTabVerb T g ≡ false
+  pub verbal-none : methodOf T g ≡ 0 → isTabVerb T g ≡ false
   unfolding isTabVerb
   verbal-none u = rw u
 
-  asks-none : methodOf T g ≡ 0 → asksBy T g ≡ identicalOf
+  pub asks-none : methodOf T g ≡ 0 → asksBy T g ≡ identicalOf
   unfolding asksBy
   asks-none u = rw u
 
-part-below : (p : Part) → numberOf p < 3
-part-below points-x = omega arith
-part-below points-y = omega arith
-part-below values = omega arith
-
 module _ (x image : List ℕ) (base : ℕ) (lent work : List ℕ) (f : Fits x image base lent work) (k : Keeps x image base) where
-  abbrev d : List (List (List ℕ))
+  abbrev d : Records
   d = k .records
 
-  -- the tables that the load leaves
   abbrev t : List ℕ
   t = loaded x image base lent work .tables
 
-  within : Within (view d)
-  within = within-of d (read-keeps x d (tree.accepted-exactly x d .1 (k .tree)) .good)
-
-  same : tablesIn t ≡ tablesOf (built image base x (view d) (allElements image base x d))
-  same =
-      ap (λ (o : Loaded). tablesIn (o .tables)) (accepted-leaves x image base lent work f k)
-      ∙ tables-encode (length lent) (built image base x (view d) (allElements image base x d)) (built-good image base x (view d) (allElements image base x d) within)
-
   pub method-held : (m : ℕ) → m < count d records.method → (slot d records.method m conversion-type ≡ TAB-VERB → ⊥) → (c : Coefficients) → methods.coefficients (view d) m ≡ given c → HasMethod (tablesIn t) m c
   method-held m l z c e =
-      subst (λ (T : Tables). HasMethod T m c) (sym same) (built-method image base x d (allElements image base x d) within m l z c e)
-
-  module _ (bytes : (j : ℕ) → getD image j 0 < 256) (i : ℕ) (l : i < count d records.object) (p : Part) (e : needed (needOf image base x (view d) i) p ≡ true) where
-    abbrev g : ℕ
-    g = groupOf i (numberOf p)
-
-    group-below : g < groups t
-    group-below =
-        let c : groups t ≡ count d records.object * 3 = ap (λ (T : Tables). T .counts groupSection) same ∙ count-groups image base x (view d) (allElements image base x d) within in
-        omega (arith, part-below p)
-
-    its-method : methodOf (tablesIn t) g ≡ methodIn x (view d) (sourceOf x (view d) i p)
-    its-method = part-held x image base lent work f k i l p e .converted
-
-    rule-is : loaded x image base lent work .answer ≡ text.given tt
-    rule-is = accepted-exactly x image base lent work .1 (f, k)
-
-    by-fraction : (c : Coefficients) → isTabVerb (tablesIn t) g ≡ false → asksBy (tablesIn t) g ≡ c → (j : ℕ) → means (tablesIn t) g (rawIn (tablesIn t) image g j) ≡ fraction c (rawIn (tablesIn t) image g j)
-    by-fraction c v a j =
-        value-exact (length x) (length image) t (loaded-keeps x image base lent work rule-is) g group-below v image bytes j ∙ ap (λ (q : Coefficients). fraction q (rawIn (tablesIn t) image g j)) a
-
-    -- element j of the part, whose conversion is method m of the description
-    pub value-described : (m : ℕ) → methodIn x (view d) (sourceOf x (view d) i p) ≡ suc m → m < count d records.method → (slot d records.method m conversion-type ≡ TAB-VERB → ⊥)
-        → (c : Coefficients) → methods.coefficients (view d) m ≡ given c → (j : ℕ) → means (tablesIn t) g (rawIn (tablesIn t) image g j) ≡ fraction c (rawIn (tablesIn t) image g j)
-    value-described m q b z c o j =
-        let h = method-held m b z c o in
-        let u : methodOf (tablesIn t) g ≡ suc m = its-method ∙ q in
-        by-fraction c (verbal-not (tablesIn t) g m u (h .0)) (asks-some (tablesIn t) g m u c (h .1)) j
-
-    -- "IDENTICAL and NO_COMPU_METHOD are 1, 0, 0, 1."
-    pub value-identical : methodIn x (view d) (sourceOf x (view d) i p) ≡ 0 → (j : ℕ) → means (tablesIn t) g (rawIn (tablesIn t) image g j) ≡ fraction identicalOf (rawIn (tablesIn t) image g j)
-    value-identical q j = by-fraction identicalOf (verbal-none (tablesIn t) g (its-method ∙ q)) (asks-none (tablesIn t) g (its-method ∙ q)) j
+      subst (λ (T : Tables). HasMethod T m c) (sym (same x image base lent work f k)) (built-method image base x d (allElements image base x d) (within x image base lent work f k) m l z c e)

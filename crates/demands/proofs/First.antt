@@ -1,12 +1,21 @@
--- THE FIRST DEMAND, to be read beside document 01: "each call ends with an answer or one numbered refusal, for exactly the listed reason".
--- The calls are load, search, read, make_list, write_raw, write_physical, listing and line; their contracts say that they answer and leave what
--- `loaded`, `searched`, `reading`, `making`, `writing`, `listing` and `printing` say.
-use Prim.Native.Nat.{ℕ, _≤_}
+-- THE FIRST DEMAND, to be read beside document 01: "Whatever description, memory image, request or lent table comes in, each call ends with an answer or one
+-- numbered refusal, for exactly the listed reason. A refused write changes nothing; a refused load names the place in the text and leaves its tables at zero (where a
+-- size or the base address is wrong: place 0, untouched)."
+-- The calls are load, search, read, make_list, write_raw, write_physical, listing and line; their contracts say that they answer and leave what `loaded`,
+-- `searched`, `reading`, `making`, `writing`, `listing` and `printing` say, and ask nothing.
+--     one-load .. one-line                          one answer and one content of lent memory; of the C functions: Ones, `c-load-one` and those after it
+--     listed, leaves, told-to-c                     a load's refusals (refusals, specs/Refusals)
+--     refused-write, refused-list                   "No refusal touches image or list."
+--     found, found-none                             what the search finds
+use Prim.Native.Nat.{ℕ, suc, _≤_, _<_}
 use mathlib.Core.Path.{_≡_}
 use mathlib.Core.List.{List}
+use mathlib.Core.Bool.{false}
 use mathlib.Core.Logic.{_⊎_}
 use lib.ListN.{length, replicate}
 use Rattle.text.specs.Answer.{refused}
+use Rattle.number.specs.Answer as number
+use Rattle.tables.specs.Form.{objectSection, tablesIn}
 use Rattle.load.specs.Load.{loaded, loadedOf}
 use Rattle.load.specs.declared.LoadAnswer.{LoadAnswer}
 use Rattle.look.specs.Calls.{Lent, searched, reading, Kept, making, Request, writing}
@@ -14,8 +23,9 @@ use Rattle.look.specs.Told.{toldSearch, toldRead, after}
 use Rattle.look.specs.declared.search.SearchAnswer.{SearchAnswer}
 use Rattle.look.specs.declared.read.ReadAnswer.{ReadAnswer}
 use Rattle.look.specs.declared.call.CallAnswer.{CallAnswer}
-use Rattle.demands.proofs.Runs as list
-use Rattle.listing.specs.Listing.{listing, listedOf}
+use Rattle.demands.proofs.Runs as runs
+use Rattle.demands.proofs.Searched as search
+use Rattle.listing.specs.Listing.{listing, printing, listedOf}
 use Rattle.listing.specs.declared.listing.ListingAnswer.{ListingAnswer}
 use Rattle.numbers.specs.Numbers.{loadNumber}
 use Rattle.numbers.specs.Back.{loadBack}
@@ -30,20 +40,24 @@ pub one-load : (x image : List ℕ) (base : ℕ) (tables work : List ℕ) (r s :
 one-load = ones.load-one
 
 pub one-search : (x t n : List ℕ) (l : Lent) (r s : SearchAnswer) → toldSearch r ≡ searched x t l n → toldSearch s ≡ searched x t l n → r ≡ s
-one-search = list.search-one
+one-search = runs.search-one
 
 pub one-read : (t image : List ℕ) (l : Lent) (o p i : ℕ) (r s : ReadAnswer) → toldRead r ≡ reading t image l o p i → toldRead s ≡ reading t image l o p i → r ≡ s
-one-read = list.read-one
+one-read = runs.read-one
 
 pub one-list : (t : List ℕ) (n base : ℕ) (k a b : Kept) (r s : CallAnswer) → after r a ≡ making t n base k → after s b ≡ making t n base k → (r ≡ s) × (a ≡ b)
-one-list = list.make-one
+one-list = runs.make-one
 
 pub one-write : (t : List ℕ) (n base : ℕ) (k a b : Kept) (q : Request) (r s : CallAnswer) → after r a ≡ writing t n base k q → after s b ≡ writing t n base k q → (r ≡ s) × (a ≡ b)
-one-write = list.write-one
+one-write = runs.write-one
 
 pub one-listing : (x t : List ℕ) (base : ℕ) (k : Kept) (out : List ℕ) (r s : ListingAnswer) (o u : List ℕ)
     → listedOf r o ≡ listing x t base k out → listedOf s u ≡ listing x t base k out → (r ≡ s) × (o ≡ u)
 one-listing = ones.listing-one
+
+pub one-line : (x t : List ℕ) (base : ℕ) (k : Kept) (object part index : ℕ) (out : List ℕ) (r s : ListingAnswer) (o u : List ℕ)
+    → listedOf r o ≡ printing x t base k object part index out → listedOf s u ≡ printing x t base k object part index out → (r ≡ s) × (o ≡ u)
+one-line = ones.line-one
 
 module _ (x image : List ℕ) (base : ℕ) (tables work : List ℕ) where
   -- "Numbers we answer with": a load's refusal is 20 at place 0, or 1 to 13 at a place in the text or at its end
@@ -59,3 +73,17 @@ module _ (x image : List ℕ) (base : ℕ) (tables work : List ℕ) where
   -- the number that a C caller gets tells the answer
   pub told-to-c : loadBack (loadNumber (loaded x image base tables work .answer)) ≡ loaded x image base tables work .answer
   told-to-c = telling.load-number-tells x image base tables work
+
+-- "No refusal touches image or list."
+pub refused-write : (t : List ℕ) (n base : ℕ) (k : Kept) (q : Request) (c : ℕ) → writing t n base k q .answer ≡ number.refused c → writing t n base k q .left ≡ k
+refused-write = runs.refused-changes-nothing
+
+pub refused-list : (t : List ℕ) (n base : ℕ) (k : Kept) (c : ℕ) → making t n base k .answer ≡ number.refused c → making t n base k .left ≡ k
+refused-list = runs.make-refused-changes-nothing
+
+-- "The search for a name stops at the first object that bears it."
+pub found : (x t w : List ℕ) (l : Lent) (k : ℕ) → searched x t l w ≡ number.given (suc k) → search.First x (tablesIn t) w (tablesIn t .counts objectSection) 0 k
+found = search.search-found
+
+pub found-none : (x t w : List ℕ) (l : Lent) → searched x t l w ≡ number.given 0 → (j : ℕ) → j < tablesIn t .counts objectSection → search.bears x (tablesIn t) w j ≡ false
+found-none = search.search-finds-none

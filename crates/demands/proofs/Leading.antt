@@ -58,7 +58,7 @@ module _ (x : List ℕ) (v : View) (j a e : ℕ) where
           let z = eqb-false s m u in
           ih (record { from = omega (arith, r .from); below = omega (arith, r .below); same = r .same; first = λ k l b. r .first k (omega arith) b })
 
-  bears-found : (i : ℕ) → Bears x v j a e i → find x v j a e ≡ suc i
+  pub bears-found : (i : ℕ) → Bears x v j a e i → find x v j a e ≡ suc i
   bears-found i b = of-found (v .counts j) 0 i (record { from = omega arith; below = omega (arith, b .below); same = b .same; first = λ k l c. b .first k c })
 
   found-bears : (i : ℕ) → find x v j a e ≡ suc i → Bears x v j a e i

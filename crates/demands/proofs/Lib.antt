@@ -14,6 +14,7 @@ pub mod Placing
 pub mod Leading
 pub mod Ruling
 pub mod Accepting
+pub mod Loaded
 pub mod Telling
 pub mod Standing
 pub mod Ones
@@ -21,6 +22,11 @@ pub mod Keeping
 pub mod Frames
 pub mod Meaning
 pub mod Verbal
+pub mod Readings
+pub mod Writings
+pub mod Valued
+pub mod Tabled
+pub mod Sources
 pub mod Converting
 pub mod Powers
 pub mod Types

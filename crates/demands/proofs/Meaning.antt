@@ -1,40 +1,38 @@
 -- THE SECOND DEMAND: "its physical value is the exact fraction or text, or none", and "a physical write stores the whole number nearest to what the
 -- conversion asks, halves away from zero, or is refused".
-use Prim.Native.Nat.{ℕ, zero, suc, _+_, _-_, _*_, _^_, _≤_, _<_}
-use mathlib.Core.Path.{_≡_, refl, sym, _∙_, ap, subst}
+use Prim.Native.Nat.{ℕ, zero, suc, _-_, _*_, _^_, _<_}
+use mathlib.Core.Path.{_≡_, refl, sym, _∙_, subst}
 use mathlib.Core.List.{List}
-use mathlib.Core.Bool.{Bool, true, false, cond, not, _&&_, false≢true}
+use mathlib.Core.Bool.{Bool, true, false, cond, not, _&&_}
 use mathlib.Core.Logic.{_↔_}
 use native.Mathlib.Omega.{arith}
-use borrow.Author.Tests.{eqb-true, eqb-false, eq-eqb, ne-eqb}
+use borrow.Author.Tests.{eqb-false}
 use lib.Dec.{eqb}
-use lib.IntN.{ℤ, pos, negsuc, natAbs, _+ℤ_, _-ℤ_, _*ℤ_}
-use lib.ListN.{length, getD}
+use lib.IntN.{ℤ, pos, negsuc, natAbs, _-ℤ_, _*ℤ_}
+use lib.ListN.{getD}
 use Rattle.number.specs.Answer.{Answer, given, refused}
 use Rattle.number.specs.Decimal.{Scaled}
 use Rattle.cell.specs.Kind.{shapeOf}
-use Rattle.cell.specs.Raw.{rawAt, fitsRaw}
 use Rattle.cell.proofs.Shapes.{bytes-le}
 use Rattle.cell.proofs.Laws.{raw-small}
 use Rattle.convert.specs.declared.method.Coefficients.{Coefficients}
 use Rattle.convert.specs.Whole.{allSmall}
 use Rattle.number.specs.Signed.{signedOf}
-use Rattle.convert.specs.Limit.{withinLimits}
 use Rattle.convert.specs.Method.{identicalOf, sameProducts, soundMethod}
-use Rattle.convert.specs.Fraction.{Value, none, number, turned, fraction, fractionOf}
-use Rattle.convert.specs.Round.{away, nearest, roundedQuotient, rawFor}
-use Rattle.convert.specs.Asked.{askedOf, nearestRaw, askedRaw}
+use Rattle.convert.specs.Fraction.{none, turned, fraction, fractionOf}
+use Rattle.convert.specs.Round.{away, nearest, rawFor}
+use Rattle.convert.specs.Asked.{nearestRaw, askedRaw}
 use Rattle.convert.proofs.Laws.{fraction-exact, stored-near, Stores, asked-stores}
 use Rattle.convert.proofs.Rounds.{half-away, quotient-none, quotient-is}
 use Rattle.tables.specs.Form.{methodSection, conversionCell, tableCell, lowerCell, upperCell, Tables, tablesIn, kind, first, mask, methodOf, limit, coefficients}
 use Rattle.tables.specs.Group.{groupOf, placeOf}
-use Rattle.tables.specs.Rule.{isVerbal, isFraction, signsRule, wordRule, fractionRule, verbalRule, methodRule, keepsRule}
-use Rattle.tables.proofs.All.{left, right, three, all-at}
+use Rattle.tables.specs.Rule.{isVerbal, isFraction, signsRule, wordRule, fractionRule, methodRule, keepsRule}
+use Rattle.tables.proofs.All.{left, three, all-at}
 use Rattle.tables.proofs.Reading.{rule-facts, method-below}
-use Rattle.look.specs.Element.{textAt, meansBy, means, rawIn}
-use Rattle.look.specs.Calls.{Kept, groups, hasRoom, lentBy, After, physicalText, Request, request, groupIn, asksBy, isTabVerb, wantedRaw, judgedRequest, writing}
+use Rattle.look.specs.Element.{meansBy, means, rawIn}
+use Rattle.look.specs.Calls.{Kept, groups, hasRoom, lentBy, reading, readingOf, physicalText, request, asksBy, isTabVerb, wantedRaw, judgedRequest, writing}
 use Rattle.list.proofs.Writes.{never, same-given, accepted, refused-answer}
-use Rattle.demands.proofs.Runs.{reads-as-written}
+use Rattle.demands.proofs.Runs.{reads-back}
 use Rattle.demands.specs.Nearest.{over, under, TwiceOff, Nearest}
 
 -- ---- the value
@@ -121,7 +119,11 @@ module _ (k : Coefficients) (p : Scaled) (z : ℤ) (h : rawFor away k (signedOf 
       subst (λ (y : ℤ). TwiceOff k p y ≡ natAbs (under k p) → natAbs (over k p) < natAbs (y *ℤ under k p)) is-nearest
       (half-away (over k p) (under k p) some-under)
 
-stores-so : (T : Tables) (g : ℕ) (s : List ℕ) (z : ℤ) → wantedRaw T g (physicalText s) ≡ given z → Nearest T g s z
+-- what an element of group g is asked by
+abbrev pub NearestIn : Tables → ℕ → List ℕ → ℤ → Type 0
+NearestIn T g = Nearest (limit T g lowerCell) (limit T g upperCell) (asksBy T g) (shapeOf (kind T g)) (mask T g)
+
+stores-so : (T : Tables) (g : ℕ) (s : List ℕ) (z : ℤ) → wantedRaw T g (physicalText s) ≡ given z → NearestIn T g s z
 stores-so T g s z h =
     let a = wants-asked T g s z h in
     let r = nearest-raw (asksBy T g) (a .asked) z (a .near) in
@@ -135,15 +137,34 @@ stores-so T g s z h =
       fits = a .fits;
     }
 
--- an accepted physical write of the text s to element i of a part p of object o: what the element then holds is nearest to what s asks
-pub stores-nearest : (t : List ℕ) (n base : ℕ) (k : Kept) (o p i : ℕ) (s : List ℕ) → ((j : ℕ) → getD (k .image) j 0 < 256)
-    → writing t n base k (request o p i (physicalText s)) .answer ≡ given tt
-    → Nearest (tablesIn t) (groupOf o p) s (rawIn (tablesIn t) (writing t n base k (request o p i (physicalText s)) .left .image) (groupOf o p) i)
-stores-nearest t n base k o p i s b h = go (judgedRequest t (lentBy n base k) (hasRoom t k) (request o p i (physicalText s))) refl
+-- "15: .. physical write under TAB_VERB"
+plain-asked : (T : Tables) (g : ℕ) (s : List ℕ) (z : ℤ) → wantedRaw T g (physicalText s) ≡ given z → isTabVerb T g ≡ false
+plain-asked T g s z = go (isTabVerb T g)
   where
-    go : (a : Answer ℤ) → judgedRequest t (lentBy n base k) (hasRoom t k) (request o p i (physicalText s)) ≡ a
-        → Nearest (tablesIn t) (groupOf o p) s (rawIn (tablesIn t) (writing t n base k (request o p i (physicalText s)) .left .image) (groupOf o p) i)
+    go : (b : Bool) → cond (not b) (askedRaw (limit T g lowerCell) (limit T g upperCell) (asksBy T g) (shapeOf (kind T g)) (mask T g) s) (refused 15) ≡ given z → b ≡ false
+    go true h = absurd (never 15 z h)
+    go false h = refl
+
+-- an accepted physical write of the text s to element i of part p of object o: a number nearest to what s asks is stored, under a conversion that is not verbal, and
+-- the element then reads as that
+pub record WritesNearest (t : List ℕ) (n base : ℕ) (k : Kept) (o p i : ℕ) (s : List ℕ) : Type 0 where
+  pub raw : ℤ
+  pub plain : isTabVerb (tablesIn t) (groupOf o p) ≡ false
+  pub nearest : NearestIn (tablesIn t) (groupOf o p) s raw
+  pub read-back : reading t (writing t n base k (request o p i (physicalText s)) .left .image) (lentBy n base (writing t n base k (request o p i (physicalText s)) .left)) o p i
+      ≡ given (readingOf (tablesIn t) (groupOf o p) raw)
+
+pub writes-nearest : (t : List ℕ) (n base : ℕ) (k : Kept) (o p i : ℕ) (s : List ℕ) → ((j : ℕ) → getD (k .image) j 0 < 256)
+    → writing t n base k (request o p i (physicalText s)) .answer ≡ given tt → WritesNearest t n base k o p i s
+writes-nearest t n base k o p i s b h = go (judgedRequest t (lentBy n base k) (hasRoom t k) (request o p i (physicalText s))) refl
+  where
+    go : (a : Answer ℤ) → judgedRequest t (lentBy n base k) (hasRoom t k) (request o p i (physicalText s)) ≡ a → WritesNearest t n base k o p i s
     go (given z) e =
-        subst (λ (y : ℤ). Nearest (tablesIn t) (groupOf o p) s y) (sym (reads-as-written t n base k (request o p i (physicalText s)) z e b))
-        (stores-so (tablesIn t) (groupOf o p) s z (accepted t (lentBy n base k) (hasRoom t k) (request o p i (physicalText s)) z e .wants))
+        let w = accepted t (lentBy n base k) (hasRoom t k) (request o p i (physicalText s)) z e .wants in
+        record {
+          raw = z;
+          plain = plain-asked (tablesIn t) (groupOf o p) s z w;
+          nearest = stores-so (tablesIn t) (groupOf o p) s z w;
+          read-back = reads-back t n base k (request o p i (physicalText s)) z e b;
+        }
     go (refused c) e = absurd (never c (tt {0}) (sym (refused-answer t n base k (request o p i (physicalText s)) c e) ∙ h))

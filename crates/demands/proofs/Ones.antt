@@ -15,7 +15,7 @@ use Rattle.listing.specs.declared.listing.ListingAnswer.{ListingAnswer}
 use Rattle.listing.specs.declared.listing.ListingAnswer.the-variants as written
 use lib.Ieee.{Float}
 use lib.IntN.{ℤ}
-use Rattle.look.specs.Calls.{Lent, searched, Reading, reading, After}
+use Rattle.look.specs.Calls.{Lent, searched, reading, After}
 use Rattle.numbers.specs.Numbers.{LoadCall, loadCall, loadTold, findNumber, ReadCall, readCall, readTold, ListCall, listCall, listTold, ListingCall, listingCall, listingTold}
 
 -- which answer it was

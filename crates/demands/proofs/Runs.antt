@@ -9,7 +9,7 @@
 -- Assumes nothing.
 use mathlib.Core.Path.{_≡_, refl, sym, ap, _∙_, subst}
 use mathlib.Core.List.{List, [], _∷_}
-use mathlib.Core.Bool.{Bool, true, false, _&&_}
+use mathlib.Core.Bool.{true, false, _&&_}
 use mathlib.Core.Logic.{_⊎_}
 use Prim.Native.Nat.{ℕ, suc, _+_, _≤_, _<_}
 use native.Mathlib.Omega.{arith}
@@ -29,7 +29,7 @@ use Rattle.tables.specs.Sizes.{sizesFit}
 use Rattle.text.proofs.Within.{and-right}
 use Rattle.tables.proofs.Reading.{element-inside, total-is}
 use Rattle.look.specs.Element.{rawIn, touched}
-use Rattle.look.specs.Calls.{Lent, lentOf, lentBy, checked, searched, Reading, readingOf, reading, Kept, room, groups, hasRoom, remade, After, afterwards, making, rawNumber, Request, request, groupIn, judgedRequest, writing, lineAt, withImage}
+use Rattle.look.specs.Calls.{Lent, lentOf, lentBy, checked, searched, Reading, readingOf, reading, Kept, room, groups, hasRoom, remade, After, afterwards, making, rawNumber, Request, request, groupIn, judgedRequest, writtenTo, writing, lineAt, withImage}
 use Rattle.look.specs.Steps.{refusalOf}
 use Rattle.demands.specs.Runs.{running}
 use Rattle.look.specs.Told.{toldSearch, toldRead, toldCall, after}
@@ -124,25 +124,35 @@ module _ (t : List ℕ) (n base : ℕ) where
   run-anew k c a [] = a
   run-anew k c a (q ∷ qs) = run-anew k (writing t n base c q .left) (write-anew t n base k c a q) qs
 
+  -- what is kept after a list was made and any requests, over an image of the same length
+  run-made : (k : Kept) (qs : List Request) → making t n base k .answer ≡ given (tt {0}) → Anew t k (running t n base (making t n base k .left) qs)
+  run-made k qs h = run-anew k (making t n base k .left) (subst (λ (y : After). Anew t k (y .left)) (sym (accepted-making k h)) (start-anew t k)) qs
+
+  run-image : (k : Kept) (qs : List Request) (h : making t n base k .answer ≡ given (tt {0})) → running t n base (making t n base k .left) qs .image ≡ run-made k qs h .image
+  run-image k qs h = let a = run-made k qs h in ap (λ (y : Kept). y .image) (a .anew) ∙ image-made t (withImage (a .image) k)
+
+  run-length : (k : Kept) (qs : List Request) → making t n base k .answer ≡ given (tt {0}) → length (running t n base (making t n base k .left) qs .image) ≡ length (k .image)
+  run-length k qs h = ap length (run-image k qs h) ∙ run-made k qs h .long
+
+  -- it is the list made anew from its image
+  pub kept-is-made : (k : Kept) (qs : List Request) → making t n base k .answer ≡ given (tt {0})
+      → running t n base (making t n base k .left) qs ≡ remade t (withImage (running t n base (making t n base k .left) qs .image) k)
+  kept-is-made k qs h = run-made k qs h .anew ∙ ap (λ (y : List ℕ). remade t (withImage y k)) (sym (run-image k qs h))
+
   -- THE KEPT LIST IS THE LIST MADE ANEW. A list was made over any lent columns, and then any requests were carried out or refused: what is kept is
   -- what making a list over the same lent columns from the image as it then is leaves.
   pub kept-equals-made-anew : (k : Kept) (qs : List Request) → making t n base k .answer ≡ given (tt {0})
       → running t n base (making t n base k .left) qs ≡ making t n base (withImage (running t n base (making t n base k .left) qs .image) k) .left
   kept-equals-made-anew k qs h =
       let c = running t n base (making t n base k .left) qs in
-      let s : Anew t k (making t n base k .left) = subst (λ (y : After). Anew t k (y .left)) (sym (accepted-making k h)) (start-anew t k) in
-      let a = run-anew k (making t n base k .left) s qs in
-      let i : c .image ≡ a .image = ap (λ (y : Kept). y .image) (a .anew) ∙ image-made t (withImage (a .image) k) in
-      let m = accepted-making (withImage (a .image) k) (same-length-making k (a .image) (a .long) h) in
-      a .anew ∙ sym (ap (λ (y : After). y .left) m) ∙ ap (λ (y : List ℕ). making t n base (withImage y k) .left) (sym i)
+      let m = accepted-making (withImage (c .image) k) (same-length-making k (c .image) (run-length k qs h) h) in
+      kept-is-made k qs h ∙ sym (ap (λ (y : After). y .left) m)
 
   -- and making it anew in place, over what is kept itself, is accepted and leaves it as it is
   pub made-anew-in-place : (k : Kept) (qs : List Request) → making t n base k .answer ≡ given (tt {0})
       → making t n base (running t n base (making t n base k .left) qs) ≡ record { answer = given (tt {0}); left = running t n base (making t n base k .left) qs }
   made-anew-in-place k qs h =
-      let c = running t n base (making t n base k .left) qs in
-      let s : Anew t k (making t n base k .left) = subst (λ (y : After). Anew t k (y .left)) (sym (accepted-making k h)) (start-anew t k) in
-      let a = run-anew k (making t n base k .left) s qs in
+      let a = run-made k qs h in
       subst (λ (y : Kept). making t n base y ≡ record { answer = given (tt {0}); left = y }) (sym (a .anew)) (again k (a .image) (a .long) h)
     where
       again : (k : Kept) (image : List ℕ) → length image ≡ length (k .image) → making t n base k .answer ≡ given (tt {0})
@@ -243,9 +253,13 @@ module _ (t : List ℕ) (n base : ℕ) where
       (λ d. past-made t k j (rw (total-is n (length (k .image)) t (rule-of k d .1)) at l))
 
   -- ---- no byte of the image decides a write's answer, only its length
-  pub write-depends-on-length-only : (image other : List ℕ) (enough : Bool) (q : Request) → length image ≡ length other
-      → judgedRequest t (lentOf n (length image) base) enough q ≡ judgedRequest t (lentOf n (length other) base) enough q
-  write-depends-on-length-only image other enough q e = rw e
+  pub write-depends-on-length-only : (k : Kept) (image : List ℕ) (q : Request) → length image ≡ length (k .image) → writing t n base (withImage image k) q .answer ≡ writing t n base k q .answer
+  unfolding writing
+  write-depends-on-length-only k image q e = rw e (answers (judgedRequest t (lentBy n base k) (hasRoom t k) q))
+    where
+      answers : (a : Answer ℤ) → afterwards a (withImage image k) (writtenTo t (groupIn q) (q .index) (withImage image k)) .answer ≡ afterwards a k (writtenTo t (groupIn q) (q .index) k) .answer
+      answers (given z) = refl
+      answers (refused c) = refl
 
   -- ---- a contract leaves one result
   pub make-one : (k a b : Kept) (r s : CallAnswer) → after r a ≡ making t n base k → after s b ≡ making t n base k → (r ≡ s) × (a ≡ b)

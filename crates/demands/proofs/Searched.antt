@@ -3,19 +3,23 @@
 use Prim.Native.Nat.{ℕ, zero, suc, _+_, _≤_, _<_}
 use mathlib.Core.Path.{_≡_, refl, sym, subst}
 use mathlib.Core.List.{List}
-use mathlib.Core.Bool.{Bool, true, false, cond}
+use mathlib.Core.Bool.{Bool, true, false, cond, _&&_}
 use native.Mathlib.Omega.{arith}
 use borrow.Author.Tests.{eqb-true, eqb-false}
 use lib.Dec.{eqb}
 use lib.ListN.{length}
 use Rattle.text.specs.Bytes.{samePart}
-use Rattle.tables.specs.Form.{objectSection, Tables}
-use Rattle.look.specs.Calls.{searchFrom}
+use Rattle.number.specs.Answer.{given, refused}
+use Rattle.tables.specs.Form.{objectSection, nameCell, namePastCell, Tables, tablesIn}
+use Rattle.tables.specs.Rule.{keepsRule}
+use Rattle.tables.specs.Sizes.{sizesFit}
+use Rattle.look.specs.Calls.{Lent, checked, searchFrom, searched}
+use Rattle.list.proofs.Writes.{never, same-given}
 
 module _ (x : List ℕ) (T : Tables) (w : List ℕ) where
   -- object i bears the name
   abbrev pub bears : ℕ → Bool
-  bears i = samePart x (T .slots objectSection i 0) (T .slots objectSection i 1) w 0 (length w)
+  bears i = samePart x (T .slots objectSection i nameCell) (T .slots objectSection i namePastCell) w 0 (length w)
 
   -- k is the first object from i on, of f, that bears the name
   pub record First (f i k : ℕ) : Type 0 where
@@ -54,3 +58,22 @@ module _ (x : List ℕ) (T : Tables) (w : List ℕ) where
           → cond b (suc i) (searchFrom f x T w (suc i)) ≡ 0 → bears j ≡ false
       by-test g true h u = absurd (omega (arith, u))
       by-test g false h u = one-more i (i + suc f) h (λ n a b. g u n a (omega (arith, b))) j p q
+
+-- ---- the call
+module _ (x t w : List ℕ) (l : Lent) where
+  answered : (n : ℕ) → searched x t l w ≡ given n → searchFrom (tablesIn t .counts objectSection) x (tablesIn t) w 0 ≡ n
+  unfolding searched checked
+  answered n = go (sizesFit (l .text) (l .image) (l .base) (length t) && true) (keepsRule (l .text) (l .image) t)
+    where
+      go : (a b : Bool) → cond a (cond b (given (searchFrom (tablesIn t .counts objectSection) x (tablesIn t) w 0)) (refused 22)) (refused 20) ≡ given n → searchFrom (tablesIn t .counts objectSection) x (tablesIn t) w 0 ≡ n
+      go false b h = absurd (never 20 n h)
+      go true false h = absurd (never 22 n h)
+      go true true h = same-given (searchFrom (tablesIn t .counts objectSection) x (tablesIn t) w 0) n h
+
+  -- what it finds is the first of all objects that bears the name
+  pub search-found : (k : ℕ) → searched x t l w ≡ given (suc k) → First x (tablesIn t) w (tablesIn t .counts objectSection) 0 k
+  search-found k h = search-first x (tablesIn t) w (tablesIn t .counts objectSection) 0 k (answered (suc k) h)
+
+  -- and where it finds nothing, none bears it
+  pub search-finds-none : searched x t l w ≡ given 0 → (j : ℕ) → j < tablesIn t .counts objectSection → bears x (tablesIn t) w j ≡ false
+  search-finds-none h j b = search-none x (tablesIn t) w (tablesIn t .counts objectSection) 0 (answered 0 h) j (omega arith) (omega arith)

@@ -1,36 +1,32 @@
 -- THE SECOND DEMAND: "every element then stands at the address and width its layout gives, inside the image".
 --     part-held     each part of each object of an accepted load, on the lent cells
-use Prim.Native.Nat.{ℕ, zero, suc, _+_, _-_, _*_, _≤_, _<_, min}
-use mathlib.Core.Path.{_≡_, refl, sym, _∙_, ap, subst}
+use Prim.Native.Nat.{ℕ, _+_, _-_, _*_, _≤_, _<_, min}
+use mathlib.Core.Path.{_≡_, refl, sym, subst}
 use mathlib.Core.List.{List, [], _∷_, _++_}
-use mathlib.Core.Bool.{Bool, true, false, not, _||_}
+use mathlib.Core.Bool.{Bool, true, false, not}
 use native.Mathlib.Omega.{arith}
 use lib.Dec.{eqb}
 use lib.ListN.{length, getD}
-use Rattle.text.specs.Answer as text
 use Rattle.number.specs.Decimal.{Scaled}
 use Rattle.records.specs.Records.{count}
 use Rattle.rows.specs.Sections as records
 use Rattle.grammar.specs.Move.{View, view}
 use Rattle.cell.specs.Kind.{shapeOf}
-use Rattle.place.specs.declared.order.Entry.{Entry}
-use Rattle.objects.specs.Object.{layoutNumber, layoutOf, firstOf, needOf, placesOf}
-use Rattle.facts.proofs.Keeps.{read-keeps}
-use Rattle.build.specs.Build.{flag, decimalCells, methodIn, forbids, limitCells, meaning, standingCells, counterCells, xPart, yPart, valuesPart, xRow, yRow, valuesRow, knownOf, built}
-use Rattle.build.proofs.BuiltLaws.{Within, within-of, built-good, slot-x, slot-y, slot-values}
-use Rattle.tables.specs.Form.{groupSection, lowerCell, upperCell, Tables, tablesOf, tablesIn, first, walk, methodOf, mask, forbidden, limit, place, x as acrossIn, y as downIn, wide, high, kind}
-use Rattle.tables.specs.Group.{groupOf, elements, position, placeOf}
-use Rattle.tables.proofs.Cells.{tables-encode}
-use Rattle.load.specs.Load.{Loaded, loaded}
-use Rattle.tree.proofs.Accepted as tree
-use Rattle.keeps.specs.Accepted.{allElements, Taken}
+use Rattle.place.specs.declared.walk.Places.{Places}
+use Rattle.objects.specs.Object.{layoutOf, firstOf, needOf, placesOf}
+use Rattle.build.specs.Build.{flag, methodIn, forbids, limitCells, meaning, standingCells, counterCells, xPart, yPart, valuesPart, knownOf, built}
+use Rattle.build.proofs.BuiltLaws.{Within, slot-x, slot-y, slot-values}
+use Rattle.tables.specs.Form.{groupSection, lowerCell, upperCell, Tables, tablesOf, tablesIn, first, walk, methodOf, mask, forbidden, limit, x as acrossIn, wide, high, kind}
+use Rattle.tables.specs.Group.{groupOf, position, placeOf}
+use Rattle.load.specs.Load.{loaded}
+use Rattle.keeps.specs.Accepted.{Taken}
 use Rattle.keeps.specs.Stands.{Part, points-x, points-y, values, numberOf, needed, addressOf, typeOf, acrossOf, downOf, StandsAt}
 use Rattle.keeps.proofs.Bits.{flag-back}
 use Rattle.keeps.proofs.Elements.{element-stands}
 use Rattle.demands.specs.Rules.{Fits, Keeps}
 use Rattle.demands.specs.Standing.{walkOf, bitsOf, sourceOf, measures, readOnly, lowest, highest, Holds}
-use Rattle.demands.proofs.Ruling.{keeps-accepted}
-use Rattle.demands.proofs.Accepting.{accepted-leaves, accepted-exactly}
+use Rattle.demands.proofs.Ruling.{places-are, keeps-accepted}
+use Rattle.demands.proofs.Loaded.{elements, made, is-read, within, same}
 
 flag-not : (b : Bool) → not (eqb (flag b) 0) ≡ b
 flag-not true = refl
@@ -123,17 +119,13 @@ module _ (image : List ℕ) (base : ℕ) (x : List ℕ) (d : List (List (List �
     }
 
 -- in the tables that an accepted load leaves, part p of object i, where the object needs it
-pub part-held : (x image : List ℕ) (base : ℕ) (lent work : List ℕ) → Fits x image base lent work → (k : Keeps x image base) (i : ℕ) → i < count (k .records) records.object → (p : Part)
+pub part-held : (x image : List ℕ) (base : ℕ) (lent work : List ℕ) → Fits x image base lent work → (k : Keeps x image base) (i : ℕ) (l : i < count (k .records) records.object) (p : Part)
     → needed (needOf image base x (view (k .records)) i) p ≡ true
-    → Holds x (view (k .records)) i (tablesIn (loaded x image base lent work .tables)) (groupOf i (numberOf p)) base (length image) (layoutOf x (view (k .records)) i) (placesOf image base x (view (k .records)) i) p
+    → Holds x (view (k .records)) i (tablesIn (loaded x image base lent work .tables)) (groupOf i (numberOf p)) base (length image) (layoutOf x (view (k .records)) i) (k .objects i l .places) p
 part-held x image base lent work f k i l p e =
     let d = k .records in
-    let n = allElements image base x d in
-    let r = tree.accepted-exactly x d .1 (k .tree) in
-    let w : Within (view d) = within-of d (read-keeps x d r .good) in
-    let D = built image base x (view d) n in
-    let t : Taken image base x D = record { records = d; is-read = r; accepted = keeps-accepted x image base k; is-built = refl } in
-    let same : tablesIn (loaded x image base lent work .tables) ≡ tablesOf D =
-    ap (λ (o : Loaded). tablesIn (o .tables)) (accepted-leaves x image base lent work f k) ∙ tables-encode (length lent) D (built-good image base x (view d) n w) in
-    subst (λ (T : Tables). Holds x (view d) i T (groupOf i (numberOf p)) base (length image) (layoutOf x (view d) i) (placesOf image base x (view d) i) p) (sym same)
-    (holds image base x d n w i l p e (length image) (element-stands image base x D t (f .image-fits) i l p e))
+    let w : Within (view d) = within x image base lent work f k in
+    let n : Taken image base x (made x image base lent work f k) = record { records = d; is-read = is-read x image base lent work f k; accepted = keeps-accepted x image base k; is-built = refl } in
+    subst (λ (T : Tables). Holds x (view d) i T (groupOf i (numberOf p)) base (length image) (layoutOf x (view d) i) (k .objects i l .places) p) (sym (same x image base lent work f k))
+    (subst (λ (at : Places). Holds x (view d) i (tablesOf (made x image base lent work f k)) (groupOf i (numberOf p)) base (length image) (layoutOf x (view d) i) at p) (places-are image base x d i (k .objects i l))
+    (holds image base x d (elements x image base lent work f k) w i l p e (length image) (element-stands image base x (made x image base lent work f k) n (f .image-fits) i l p e)))

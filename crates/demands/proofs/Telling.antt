@@ -1,7 +1,7 @@
 -- THE FIRST DEMAND, for C callers: the number of `obarsivel_load` tells the answer, with no premise.
 --     load-tellable        a load's refusal has a number from 1 to 63 and a place below 2^32
 --     load-number-tells    what the header reads out of the number is the answer
-use Prim.Native.Nat.{ℕ, _^_, _≤_, _<_}
+use Prim.Native.Nat.{ℕ, _^_, _≤_}
 use mathlib.Core.Path.{_≡_}
 use mathlib.Core.List.{List}
 use mathlib.Core.Bool.{_&&_}

@@ -1,21 +1,25 @@
--- THE THIRD DEMAND, to be read beside document 01: "after any sequence of writes, refused ones included, the kept value list equals one made anew; an accepted write
--- changes at most the masked bits of the named element, and no list line that shares no byte with it".
+-- THE THIRD DEMAND, to be read beside document 01: "After any sequence of writes, refused ones included, the kept value list equals one made anew. An accepted
+-- write changes at most the masked bits of the named element, and no list line that shares no byte with it."
+--     kept-anew          from an accepted load on, after any requests (specs/Anew)
+--     as-many-lines      how many lines its list has
+--     framed             what a write leaves alone (specs/Frames)
+--     by-length-alone    no byte of the image decides a write's answer
 use Prim.Native.Nat.{ℕ, _≤_, _<_}
 use mathlib.Core.Path.{_≡_}
 use mathlib.Core.List.{List}
 use lib.IntN.{ℤ}
 use lib.ListN.{length, getD}
 use Rattle.text.specs.Answer as text
-use Rattle.number.specs.Answer.{refused}
 use Rattle.tables.specs.Form.{tablesIn, total}
 use Rattle.load.specs.Load.{loaded}
 use Rattle.keeps.specs.Accepted.{allElements}
-use Rattle.look.specs.Calls.{Kept, kept, room, Request, groupIn, writing}
+use Rattle.look.specs.Calls.{Kept, kept, room, Request, groupIn, writing, withImage}
 use Rattle.demands.specs.Rules.{Keeps}
 use Rattle.demands.specs.Anew.{Anew}
 use Rattle.demands.specs.Frames.{Frame}
 use Rattle.demands.proofs.Keeping as keeping
 use Rattle.demands.proofs.Frames as frames
+use Rattle.demands.proofs.Runs as runs
 
 -- from an accepted load on
 module _ (x image : List ℕ) (base : ℕ) (tables work : List ℕ) (ok : loaded x image base tables work .answer ≡ text.given tt) where
@@ -32,6 +36,6 @@ module _ (x image : List ℕ) (base : ℕ) (tables work : List ℕ) (ok : loaded
 pub framed : (t : List ℕ) (n base : ℕ) (k : Kept) (q : Request) → ((j : ℕ) → getD (k .image) j 0 < 256) → Frame t (groupIn q) (q .index) k (writing t n base k q .left)
 framed = frames.write-framed
 
--- "No refusal touches image or list."
-pub refused-changes-nothing : (t : List ℕ) (n base : ℕ) (k : Kept) (q : Request) (c : ℕ) → writing t n base k q .answer ≡ refused c → writing t n base k q .left ≡ k
-refused-changes-nothing = frames.refused-changes-nothing
+-- a write's answer depends on no byte of the image, only on its length
+pub by-length-alone : (t : List ℕ) (n base : ℕ) (k : Kept) (image : List ℕ) (q : Request) → length image ≡ length (k .image) → writing t n base (withImage image k) q .answer ≡ writing t n base k q .answer
+by-length-alone = runs.write-depends-on-length-only

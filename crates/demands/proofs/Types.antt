@@ -9,7 +9,7 @@ use mathlib.Core.Bool.{true, false}
 use mathlib.Core.Logic.{inl, inr}
 use native.Mathlib.Omega.{arith}
 use Rattle.cell.specs.Kind.{shapes, shapeOf}
-use Rattle.words.specs.Kind.{Kind, takenChoice, choiceCode}
+use Rattle.words.specs.Kind.{takenChoice, choiceCode}
 use Rattle.words.specs.Row.{word, bytes, same, kindIn}
 use Rattle.words.specs.Table.{wordRows}
 use Rattle.words.specs.Class.{classOf}
@@ -18,11 +18,11 @@ use Rattle.rows.specs.Codes.{UBYTE, SLONG}
 use Rattle.demands.specs.Types.{DataType, dataTypes, Typed}
 
 -- a word's code among the choices
-abbrev choiceOf : String → ℕ
+abbrev pub choiceOf : String → ℕ
 choiceOf s = choiceCode (classOf (bytes s))
 
 -- a type with the size and sign that the reader gives its word
-abbrev given-to : List DataType → List DataType
+abbrev pub given-to : List DataType → List DataType
 given-to [] = []
 given-to (t ∷ ts) = record { word = t .word; size = shapeOf (choiceOf (t .word)) .bytes; signed = shapeOf (choiceOf (t .word)) .signed } ∷ given-to ts
 

@@ -1,12 +1,12 @@
 -- THE SECOND DEMAND: "its physical value is the exact fraction or text, or none", under TAB_VERB.
 --     value-verbal     for tables that keep the rule
-use Prim.Native.Nat.{ℕ, zero, suc, _+_, _-_, _*_, _^_, _≤_, _<_, min}
+use Prim.Native.Nat.{ℕ, zero, suc, _+_, _-_, _^_, _≤_, _<_, min}
 use mathlib.Core.Path.{_≡_, refl, sym, _∙_, ap, subst}
 use mathlib.Core.List.{List}
-use mathlib.Core.Bool.{Bool, true, false, cond, not, _&&_, false≢true}
+use mathlib.Core.Bool.{Bool, true, false, cond, not, false≢true}
 use native.Mathlib.Omega.{arith}
 use borrow.Author.Tests.{eqb-true, eqb-false, eq-eqb, lt-ltb}
-use lib.Dec.{eqb, ltb}
+use lib.Dec.{eqb}
 use lib.IntN.{ℤ, pos, negsuc}
 use Rattle.records.specs.Cells.{countIn}
 use Rattle.number.specs.Most.{mostEntries}
@@ -19,7 +19,7 @@ use Rattle.tables.specs.Rule.{isVerbal, keepsRule}
 use Rattle.tables.proofs.Reading.{method-below, verbal-below, entries-below, entry-inside, default-inside}
 use Rattle.look.specs.Element.{textAt, meansBy, means}
 use Rattle.look.specs.Calls.{groups, isTabVerb}
-use Rattle.demands.specs.Verbal.{numberAt, Says, entry-says, none-says, TableSays}
+use Rattle.demands.specs.Value.{TextBy, by-entry, by-other}
 
 -- ---- whole numbers that the test calls the same
 eqZ-same : (z : ℤ) → eqZ z z ≡ true
@@ -39,47 +39,54 @@ eqZ-not a b h e = false≢true (sym h ∙ ap (λ (z : ℤ). eqZ z b) e ∙ eqZ-s
 small-place : (n : ℕ) → n < 2 ^ 63 → placeIn n ≡ n
 small-place n h = rw (lt-ltb n (2 ^ 63) h)
 
+-- the first of a row, and those after it
+from-first : (P : ℕ → Type 0) (f i : ℕ) → f ≤ i → P f → (suc f ≤ i → P i) → P i
+from-first P f i l h g = by-case (eqb f i) refl
+  where
+    by-case : (b : Bool) → eqb f i ≡ b → P i
+    by-case true e = subst P (eqb-true f i e) h
+    by-case false e = let o = eqb-false f i e in g (omega arith)
+
 module _ (T : Tables) where
-  -- entry f of the tables
+  -- entry f of the tables, and its number
   abbrev at : ℕ → ℕ → ℕ
   at f = T .slots entrySection f
+
+  abbrev pub numberAt : ℕ → ℤ
+  numberAt f = entryOf (at f) .number
+
+  -- what the entries from one up to another say
+  abbrev pub Says : ℕ → ℕ → Value → ℤ → Value → Type 0
+  Says = TextBy numberAt (λ f. at f textCell) (λ f. at f textPastCell)
 
   -- the entries of a table have places that a text has
   abbrev Places : ℕ → ℕ → Type 0
   Places f many = (i : ℕ) → f ≤ i → i < f + many → (at i textCell < 2 ^ 63) × (at i textPastCell < 2 ^ 63)
 
-  here : (z : ℤ) (other : Value) (f n : ℕ) → (at f textCell < 2 ^ 63) × (at f textPastCell < 2 ^ 63) → numberAt T f ≡ z
-      → Says T z f (suc n) other (text (entryOf (at f) .first) (entryOf (at f) .past))
-  here z other f n p e =
-      let a : f + 0 ≡ f = omega arith in
-      let u : entryOf (at f) .first ≡ at (f + 0) textCell = rw a (small-place (at f textCell) (p .0)) in
-      let v : entryOf (at f) .past ≡ at (f + 0) textPastCell = rw a (small-place (at f textPastCell) (p .1)) in
-      rw (u, v) (entry-says 0 (omega arith) (rw a e) (λ i k. absurd (omega arith)))
+  here : (z : ℤ) (other : Value) (f n : ℕ) → (at f textCell < 2 ^ 63) × (at f textPastCell < 2 ^ 63) → numberAt f ≡ z
+      → Says f (f + suc n) other z (text (entryOf (at f) .first) (entryOf (at f) .past))
+  here z other f n p e = rw (small-place (at f textCell) (p .0), small-place (at f textPastCell) (p .1)) (by-entry f (omega arith) (omega arith) e (λ i l k. absurd (omega arith)))
 
   -- an entry before the others, with another number
-  later : (z : ℤ) (other : Value) (f n : ℕ) (v : Value) → (numberAt T f ≡ z → ⊥) → Says T z (suc f) n other v → Says T z f (suc n) other v
-  later z other f n v h (entry-says j l e g) =
-      let a : suc f + j ≡ f + suc j = omega arith in
-      rw a (entry-says (suc j) (omega arith) (rw (sym a) e) others)
-    where
-      others : (i : ℕ) → i < suc j → numberAt T (f + i) ≡ z → ⊥
-      others zero k q = let b : f + 0 ≡ f = omega arith in h (rw b at q)
-      others (suc i) k q = let b : suc f + i ≡ f + suc i = omega arith in g i (omega arith) (rw b q)
-  later z other f n v h (none-says g) = none-says others
-    where
-      others : (i : ℕ) → i < suc n → numberAt T (f + i) ≡ z → ⊥
-      others zero k q = let b : f + 0 ≡ f = omega arith in h (rw b at q)
-      others (suc i) k q = let b : suc f + i ≡ f + suc i = omega arith in g i (omega arith) (rw b q)
+  later : (z : ℤ) (other : Value) (f n : ℕ) (v : Value) → (numberAt f ≡ z → ⊥) → Says (suc f) (suc f + n) other z v → Says f (f + suc n) other z v
+  later z other f n v h (by-entry e l k q g) = by-entry e (omega arith) (omega arith) q (λ i a b. from-first (λ (j : ℕ). numberAt j ≡ z → ⊥) f i a h (λ c. g i c b))
+  later z other f n v h (by-other g) = by-other (λ i a b. from-first (λ (j : ℕ). numberAt j ≡ z → ⊥) f i a h (λ c. g i c (omega arith)))
 
-  entries-say : (z : ℤ) (other : Value) (many f : ℕ) → Places f many → Says T z f many other (textOf (entriesFrom at f many) other z)
+  entries-say : (z : ℤ) (other : Value) (many f : ℕ) → Places f many → Says f (f + many) other z (textOf (entriesFrom at f many) other z)
   unfolding textOf entriesFrom
-  entries-say z other zero f p = none-says (λ i k. absurd (omega arith))
+  entries-say z other zero f p = by-other (λ i a b. absurd (omega arith))
   entries-say z other (suc n) f p = go (eqZ (entryOf (at f) .number) z) refl (entries-say z other n (suc f) (λ i a b. p i (omega arith) (omega arith)))
     where
-      go : (b : Bool) → eqZ (entryOf (at f) .number) z ≡ b → Says T z (suc f) n other (textOf (entriesFrom at (suc f) n) other z)
-          → Says T z f (suc n) other (cond b (text (entryOf (at f) .first) (entryOf (at f) .past)) (textOf (entriesFrom at (suc f) n) other z))
+      go : (b : Bool) → eqZ (entryOf (at f) .number) z ≡ b → Says (suc f) (suc f + n) other z (textOf (entriesFrom at (suc f) n) other z)
+          → Says f (f + suc n) other z (cond b (text (entryOf (at f) .first) (entryOf (at f) .past)) (textOf (entriesFrom at (suc f) n) other z))
       go true e r = here z other f n (p f (omega arith) (omega arith)) (eqZ-is (entryOf (at f) .number) z e)
       go false e r = later z other f n (textOf (entriesFrom at (suc f) n) other z) (eqZ-not (entryOf (at f) .number) z e) r
+
+  -- what verbal table s says
+  abbrev pub TableSays : ℕ → ℤ → Value → Type 0
+  TableSays s =
+      Says (T .slots tableSection s firstEntryCell) (T .slots tableSection s firstEntryCell + T .slots tableSection s entriesCell)
+      (defaultOf (T .slots tableSection s defaultCell) (T .slots tableSection s defaultPastCell))
 
 -- no section has more records than it has room for
 few-entries : (t : List ℕ) → tablesIn t .counts entrySection ≤ mostEntries

@@ -3,7 +3,10 @@ use Prim.Native.Nat.{ℕ}
 use mathlib.Core.Path.{_≡_}
 use mathlib.Core.List.{List}
 use Rattle.number.specs.Answer.{given}
-use Rattle.look.specs.Calls.{Kept, making, Request, withImage}
+use Rattle.tables.specs.Form.{tablesIn}
+use Rattle.tables.specs.Group.{groupOf, lineOf}
+use Rattle.look.specs.Element.{lineWith}
+use Rattle.look.specs.Calls.{lentBy, Reading, reading, Kept, making, Request, lineAt, withImage}
 use Rattle.demands.specs.Runs.{running}
 
 -- tables t, n bytes of description, a base address, and k: an image with four lent columns
@@ -19,3 +22,6 @@ module _ (t : List ℕ) (n base : ℕ) (k : Kept) where
     pub anew : (qs : List Request) → afterAll qs ≡ making t n base (withImage (afterAll qs .image) k) .left
     -- and making it anew in place is accepted and leaves it as it is
     pub again : (qs : List Request) → making t n base (afterAll qs) ≡ record { answer = given tt; left = afterAll qs }
+    -- and each line holds what reading its element then answers
+    pub reads : (qs : List Request) (o p i : ℕ) (r : Reading) → reading t (afterAll qs .image) (lentBy n base (afterAll qs)) o p i ≡ given r
+        → lineAt (afterAll qs) (lineOf (tablesIn t) (groupOf o p) i) ≡ lineWith (r .raw) (r .value)

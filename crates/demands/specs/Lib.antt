@@ -3,7 +3,9 @@ pub mod Placed
 pub mod Leads
 pub mod Rules
 pub mod Nearest
-pub mod Verbal
+pub mod Value
+pub mod Readings
+pub mod Writings
 pub mod Runs
 pub mod Anew
 pub mod Frames

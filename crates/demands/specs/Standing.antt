@@ -1,7 +1,7 @@
 -- What the tables hold of a part of an object, by the records of its description: all that a call asks of it.
-use Prim.Native.Nat.{ℕ, _+_, _-_, _*_, _<_}
+use Prim.Native.Nat.{ℕ, _+_, _-_, _*_}
 use mathlib.Core.Path.{_≡_}
-use mathlib.Core.List.{List, [], _∷_}
+use mathlib.Core.List.{List}
 use mathlib.Core.Bool.{Bool, false, not, _||_}
 use lib.Dec.{eqb}
 use Rattle.number.specs.Decimal.{Scaled}
@@ -16,7 +16,7 @@ use Rattle.objects.specs.Object.{layoutNumber, firstOf, axisAt}
 use Rattle.build.specs.Build.{axisWalk, valuesWalk, maskOf, whatOf, ofObject, ofAxis, xSource, methodIn}
 use Rattle.build.specs.declared.part.Source.{Source}
 use Rattle.tables.specs.Form.{Tables, lowerCell, upperCell, first, methodOf, mask, forbidden, limit}
-use Rattle.tables.specs.Group.{elements, position, placeOf}
+use Rattle.tables.specs.Group.{position, placeOf}
 use Rattle.keeps.specs.Stands.{Part, points-x, points-y, values, addressOf, typeOf, acrossOf, downOf, StandsAt}
 
 module _ (x : List ℕ) (v : View) (i : ℕ) where
@@ -38,6 +38,13 @@ module _ (x : List ℕ) (v : View) (i : ℕ) where
   sourceOf points-y = ofAxis (axisAt v i 1)
   sourceOf values = ofObject i
 
+  -- the name of its conversion: its first byte, and the place past it
+  abbrev pub conversionFrom : Part → ℕ
+  conversionFrom p = v .slots (sourceOf p .sec) (sourceOf p .number) (sourceOf p .conversion)
+
+  abbrev pub conversionPast : Part → ℕ
+  conversionPast p = v .slots (sourceOf p .sec) (sourceOf p .number) (sourceOf p .conversion + 1)
+
   -- "21: MEASUREMENT or READ_ONLY"
   abbrev pub measures : Part → Bool
   measures points-x = false
@@ -54,12 +61,16 @@ module _ (x : List ℕ) (v : View) (i : ℕ) where
   abbrev pub highest : Part → Scaled
   highest p = decimalSlots v (sourceOf p .sec) (sourceOf p .number) (sourceOf p .upper)
 
+  -- the address of the element with index j: "x fastest in a map whatever the storage", "ROW_DIR: x runs fastest", "COLUMN_DIR: y runs fastest", "INDEX_DECR
+  -- stores the axis's last point first"
+  abbrev pub elementAt : Layout → Places → Part → ℕ → ℕ
+  elementAt l at p j = addressOf at p + shapeOf (typeOf l p) .bytes * position (walkOf p) (acrossOf at p) (acrossOf at p) (downOf at p) j
+
   -- group g is part p of object i, which stands at the places at by the layout l
   pub record Holds (T : Tables) (g base m : ℕ) (l : Layout) (at : Places) (p : Part) : Type 0 where
     -- "The first part stands at the object's address ..": its address, data type and points, and its bytes inside the image
     pub stands : StandsAt T g base m l at p
-    -- the element with index j: "x fastest in a map whatever the storage"
-    pub element : (j : ℕ) → base + placeOf T g j ≡ addressOf at p + shapeOf (typeOf l p) .bytes * position (walkOf p) (acrossOf at p) (acrossOf at p) (downOf at p) j
+    pub element : (j : ℕ) → base + placeOf T g j ≡ elementAt l at p j
     -- "Byte order: the object's, else MOD_COMMON's, else MSB_LAST."
     pub order : first T g ≡ firstOf v i
     pub masked : mask T g ≡ bitsOf p

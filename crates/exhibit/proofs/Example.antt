@@ -12,7 +12,7 @@ use lib.IntN.{pos}
 use lib.ListN.{length, replicate}
 use Rattle.text.specs.Answer.{given}
 use Rattle.text.specs.Walk.{walk, over}
-use Rattle.text.specs.Bytes.{spelt, isBlank, isAllowed, isLetter, isDigit, startsName, inName, startsNumber, pairAt, sameFor, samePart}
+use Rattle.text.specs.Bytes.{isBlank, isAllowed, isLetter, isDigit, startsName, inName, startsNumber, pairAt, sameFor, samePart}
 use Rattle.text.specs.Blank.{lineEnd, commentEnd, blankAt, tokenEnds}
 use Rattle.text.specs.Token.{nameEnd, nameAt, stringEnd, stringAt, runEnd, numberAt, isBegin, isEnd, markAt, tokenAt, nextToken}
 use Rattle.number.specs.Answer.{inRun}
@@ -89,6 +89,6 @@ pub example-keeps : (lent work : List ℕ) → length lent ≡ 36617 → 42578 �
 example-keeps lent work e h = accepted-exactly text image 0x1000 lent work .0 (ap (λ (r : Loaded). r .answer) (example-loaded lent work e h)) .1
 
 -- the list made of it, printed
-pub example-listed : printed text cells (columnsOf (remade cells (kept image (replicate 19 (pos 0)) (replicate 19 0) (replicate 19 (pos 0)) (replicate 19 (pos 0))))) ≡ listed
+pub example-listed : printed text cells (columnsOf (remade cells (kept image (replicate 37 (pos 0)) (replicate 37 0) (replicate 37 (pos 0)) (replicate 37 (pos 0))))) ≡ listed
 unfolding trailingZeros cells encode records.countIn slotIn shapes shapeOf number cell.rawOf rawAt allSmall fraction fractionOf textOf entriesFrom verbalOf tables-form.tableSections sumBelow position placeOf list-lines.part lines list-lines.laidOver list-lines.made textAt meansBy means rawIn lineOf remade figuresOf physical line header printedLine printedPart printedBelow printed
 example-listed = refl

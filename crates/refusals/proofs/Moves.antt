@@ -1,8 +1,8 @@
 -- The refusals of the text stage: a number from 1 to 13, and a place in the text or its length.
-use Prim.Native.Nat.{ℕ, zero, suc, _+_, _-_, _≤_, _<_}
-use mathlib.Core.Path.{_≡_, refl, sym, subst}
+use Prim.Native.Nat.{ℕ, zero, suc, _+_, _-_, _≤_}
+use mathlib.Core.Path.{_≡_, refl}
 use mathlib.Core.List.{List}
-use mathlib.Core.Bool.{Bool, true, false, cond, not, _&&_, _||_}
+use mathlib.Core.Bool.{not, _&&_, _||_}
 use native.Mathlib.Omega.{arith}
 use lib.Dec.{ltb, leb, eqb}
 use lib.ListN.{length}
@@ -22,15 +22,15 @@ use Rattle.number.proofs.Laws.{run-refused, decimal-refused, whole-refused}
 use Rattle.convert.specs.Limit.{atMost}
 use Rattle.words.specs.Kind as word
 use Rattle.words.specs.Class.{classAt}
-use Rattle.records.specs.Records.{mostOf, empty}
+use Rattle.records.specs.Records.{mostOf}
 use Rattle.rows.specs.Codes.{FILE, PROJECT}
-use Rattle.rows.specs.Sections.{sections, entry, file}
+use Rattle.rows.specs.Sections.{sections, entry}
 use Rattle.rows.specs.Rows.{needed}
 use Rattle.rows.specs.Numbered.{rowAt}
 use Rattle.rows.specs.Row.{outside}
 use Rattle.grammar.specs.Move.{View, view, state, items, begun, ended, finished, applied, Move, went, over, refused}
 use Rattle.grammar.specs.Parameter.{aName, aString, aNumber, aBegin, anEnd, wrong, kindOf, slotOf, secOf, lowOf, highOf, signOf, takenWhole, takenPairs, decimalIn, twice, takenEntry, takenDecimal, ofNumber, takenNumber, find, takenNew, ofChoice, takenName, takenText, wantsText, wantsName, taken}
-use Rattle.grammar.specs.Keyword.{rowOf, isRow, mayStand, isOften, stands, plainRow, homeOf, bareWord, levelsIn, ofSkip, skips, opens, begunWord, allMet, ends, closes, endedWord, item, afterBegin, afterEnd}
+use Rattle.grammar.specs.Keyword.{rowOf, isRow, mayStand, isOften, stands, plainRow, homeOf, bareWord, levelsIn, ofSkip, skips, opens, begunWord, allMet, ends, endedWord, item, afterBegin, afterEnd}
 use Rattle.grammar.specs.Read.{onPiece, onToken, move, following, readFrom, start, read}
 use Rattle.grammar.specs.declared.state.State.{State}
 use Rattle.facts.proofs.Moves.{Goes, Calm, no-cases, move-goes}

@@ -1,10 +1,10 @@
 -- THE FIRST DEMAND: "each call ends with an answer or one numbered refusal", for a load.
 --     refusal-listed     a load's refusal has a number of document 01's list and a place in the text, or the text's length
 --     refusal-leaves     "20 leaves tables untouched, other load refusals leave them zero"
-use Prim.Native.Nat.{ℕ, zero, suc, _+_, _-_, _*_, _≤_, _<_}
-use mathlib.Core.Path.{_≡_, refl, sym, _∙_, ap, subst}
+use Prim.Native.Nat.{ℕ, zero, suc, _+_, _-_, _≤_}
+use mathlib.Core.Path.{_≡_, refl, sym, subst}
 use mathlib.Core.List.{List, [], _∷_}
-use mathlib.Core.Bool.{Bool, true, false, cond, _&&_}
+use mathlib.Core.Bool.{Bool, _&&_}
 use mathlib.Core.Logic.{_⊎_, inl, inr}
 use native.Mathlib.Omega.{arith}
 use borrow.Author.Tests.{ltb-true}
@@ -21,7 +21,7 @@ use Rattle.records.specs.Cells.{room}
 use Rattle.rows.specs.Sections as records
 use Rattle.rows.specs.Sections.{method, object}
 use Rattle.rows.specs.Slots.{own-name}
-use Rattle.grammar.specs.Move.{View, view}
+use Rattle.grammar.specs.Move.{view}
 use Rattle.grammar.specs.Read.{read}
 use Rattle.refer.specs.Refer.{referenceRows, leastIn, referred}
 use Rattle.methods.specs.Methods.{coefficients, convertsFrom, converts}
@@ -45,7 +45,6 @@ use Rattle.place.specs.declared.walk.Reached.{Reached}
 use Rattle.objects.specs.Object.{layoutOf, groundOf, needOf, maskFits, judgeObject}
 use Rattle.objects.specs.Stage.{turnsFrom, totalOr, marked, turn, judgeEach, judgeAll}
 use Rattle.facts.proofs.Texts.{text-inside, method-name, object-name}
-use Rattle.build.specs.Build.{built}
 use Rattle.tables.specs.Sizes.{sizesFit}
 use Rattle.load.specs.Load.{described, Loaded, left, loaded}
 use Rattle.refusals.specs.Refusals.{Refusal, lent, described as in-text}

@@ -1,15 +1,15 @@
 -- "Skipped whole": the walk over a skipped block passes exactly such blocks.
 --     skipped-exactly     `skipBlock` gives the place past a block exactly if the block is skipped so
-use Prim.Native.Nat.{ℕ, zero, suc, _+_, _≤_, _<_}
-use mathlib.Core.Path.{_≡_, refl, sym, _∙_, ap, subst}
+use Prim.Native.Nat.{ℕ, zero, suc, _≤_, _<_}
+use mathlib.Core.Path.{_≡_, refl, sym, _∙_, subst}
 use mathlib.Core.List.{List}
 use mathlib.Core.Bool.{Bool, true, false, cond, _&&_, false≢true}
-use mathlib.Core.Logic.{_↔_, _⊎_, inl, inr}
+use mathlib.Core.Logic.{_↔_, inl, inr}
 use native.Mathlib.Omega.{arith}
 use borrow.Author.Tests.{le-leb, leb-true, leb-false}
 use lib.Dec.{ltb, leb}
 use lib.ListN.{length}
-use Rattle.text.specs.Walk.{Step, on, done, onward, walk, over}
+use Rattle.text.specs.Walk.{on, done, onward, walk, over}
 use Rattle.text.specs.Answer.{Answer, given, refused, with, Kind, name, string, number, run, begin, end, is, Piece, piece, finish, Pass, past, closes}
 use Rattle.text.specs.Bytes.{samePart}
 use Rattle.text.specs.Item.{itemAt, nextItem}
@@ -18,7 +18,7 @@ use Rattle.text.specs.Skip.{asTag, tagAt, sameTag, closing, afterItem, isA2ml, 
 use Rattle.text.proofs.Within.{and-left, and-right}
 use Rattle.text.proofs.Walks.{Same, start, onto, stops, ends as endsWalk}
 use Rattle.text.proofs.Pieces.{Pieces, item-within}
-use Rattle.text.proofs.SkipWithin.{Passes, a2ml-item-within, skip-item-within}
+use Rattle.text.proofs.SkipWithin.{Passes, skip-item-within}
 use Rattle.tree.specs.Skipped.{Item, A2ml, ends, ends-another, holds, Items, closed, block, item, Tagged, Nested, Skipped}
 
 never : {A : Type 0} (n p : ℕ) (a : A) → refused n p ≡ given a → ⊥

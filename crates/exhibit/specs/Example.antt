@@ -1,5 +1,6 @@
 -- A description with a masked value, curves with an axis of their own and a shared one, maps, a block of values and a measurement, and its image: what it is
--- accepted into, and its listing. Every slot of its records holds another number than those beside it, so that no two can be exchanged on the way to the tables.
+-- accepted into, and its listing. It has every keyword with a meaning, with numbers that differ from those beside them, so that no two slots can be exchanged on
+-- the way to the tables.
 use Prim.Native.Nat.{ℕ}
 use mathlib.Core.List.{List, [], _∷_, _++_}
 use lib.ListN.{replicate}

@@ -7,11 +7,13 @@ use load::load;
 use look::read::ReadAnswer;
 use look::read::read;
 use look::search::search;
+use numbers::reading::has_room;
 use numbers::reading::put_reading;
 use numbers::told::call_number;
 use numbers::told::find_number;
 use numbers::told::listing_number;
 use numbers::told::load_number;
+use numbers::version::version_number;
 ghost use mathlib.Core.Path.{_≡_};
 ghost use lib.ListN.{length};
 ghost use Rattle.load.specs.Load.{loaded};
@@ -19,25 +21,15 @@ ghost use Rattle.look.specs.Calls.{lentOf, kept, searched, reading, making, raw
 ghost use Rattle.listing.specs.Listing.{listing};
 ghost use Rattle.numbers.specs.Numbers.{version, loadCall, loadTold, findNumber, readCall, readTold, listCall, listTold, listingCall, listingTold};
 
-// The version, as include/obarsivel.h has it.
-const MAJOR: u32 = 0;
-
-const MINOR: u32 = 2;
-
-const PATCH: u32 = 0;
-
 // A lent buffer is too short.
 const TOO_SHORT: u32 = 20;
-
-// How many numbers a reading has: raw, state, the two numbers, what is shown.
-const READING: usize = 5;
 
 // The version: MAJOR times 65536, MINOR times 256, and PATCH.
 #[no_mangle]
 pub extern "C" fn obarsivel_version() -> u32
     ensures { λ r. ⌜ r ≡ version ⌝ }
 {
-    MAJOR * 65536 + MINOR * 256 + PATCH
+    version_number()
 }
 
 // Loads a description: 0, or the refusal's place times 64 and its number.
@@ -84,23 +76,20 @@ pub extern "C" fn obarsivel_read(
     ensures { λ r. ⌜ readCall r (now (out .exit)) (now (shown .exit))
         ≡ readTold (reading (now (tables .entry)) (now (image .entry)) (lentOf (length (now (text .entry))) (length (now (image .entry))) base) object part index) (now (out .entry)) (now (shown .entry)) ⌝ }
 {
-    if out.len() < READING {
-        return TOO_SHORT;
+    if has_room(out.len(), shown.len()) {
+        return match read(text, image, base, tables, object, part, index) {
+            ReadAnswer::Element {
+                raw,
+                physical,
+                shown: s,
+            } => {
+                put_reading(out, shown, raw, physical, s);
+                0
+            }
+            ReadAnswer::Refused { no } => no as u32,
+        };
     }
-    if shown.len() < 1 {
-        return TOO_SHORT;
-    }
-    match read(text, image, base, tables, object, part, index) {
-        ReadAnswer::Element {
-            raw,
-            physical,
-            shown: s,
-        } => {
-            put_reading(out, shown, raw, physical, s);
-            0
-        }
-        ReadAnswer::Refused { no } => no as u32,
-    }
+    TOO_SHORT
 }
 
 // Makes the list: 0 or the refusal's number.

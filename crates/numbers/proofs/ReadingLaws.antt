@@ -2,11 +2,12 @@
 use mathlib.Core.Path.{_≡_, refl, sym, ap, _∙_}
 use mathlib.Core.Bool.{Bool, true, false, _&&_}
 use mathlib.Core.List.{List, [], _∷_}
-use Prim.Native.Nat.{ℕ, _≤_, _<_}
+use Prim.Native.Nat.{ℕ, _≤_}
 use native.Mathlib.Nat.{zero-add}
 use native.Mathlib.Omega.{arith}
 use borrow.Author.Needs.{needs}
-use borrow.Author.Tests.{le-leb, lt-leb}
+use borrow.Author.Tests.{leb-true}
+use lib.Dec.{leb}
 use lib.Ieee.{Float, fin}
 use lib.IntN.{ℤ, pos}
 use lib.ListN.{length, set}
@@ -20,6 +21,7 @@ use Rattle.look.specs.Calls.{Reading}
 use Rattle.look.specs.Told.{toldRead}
 use Rattle.look.specs.declared.read.ReadAnswer.{ReadAnswer}
 use Rattle.look.specs.declared.read.ReadAnswer.the-variants as read
+use Rattle.convert.proofs.Wholes.{left-true, right-true}
 use Rattle.afresh.proofs.RefreshLaws.{put-past}
 use Rattle.look.specs.Lines.{laidOver}
 use Rattle.numbers.specs.Numbers.{kindShown, numberShown, fiveOf, readCall, readTold}
@@ -59,33 +61,29 @@ unfolding laidOver
 front-put vs l h = sets-eq vs l 0 (omega arith) ∙ rw zero-add
 
 -- ---- a read
-and-false : (b : Bool) → (b && false) ≡ false
-and-false true = refl
-and-false false = refl
+both-hold : (l : List ℤ) (m : List Float) → (leb 5 (length l) && leb 1 (length m)) ≡ true → (5 ≤ length l) × (1 ≤ length m)
+both-hold l m h = (leb-true 5 (length l) (left-true (leb 5 (length l)) (leb 1 (length m)) h), leb-true 1 (length m) (right-true (leb 5 (length l)) (leb 1 (length m)) h))
 
-module _ (a : Answer Reading) (l : List ℤ) (m : List Float) where
-  pub read-short : (k : ℕ) → length l < k → k ≤ 5 → readCall 20 l m ≡ readTold a l m
+module _ (a : Answer Reading) (l : List ℤ) (m : List Float) (b : Bool) (w : b ≡ (leb 5 (length l) && leb 1 (length m))) where
+  pub read-short : b ≡ false → readCall 20 l m ≡ readTold a l m
   unfolding readTold
-  read-short k h u = rw (lt-leb 5 (length l) (omega arith))
+  read-short h = rw (← w, h)
 
-  pub read-no-room : length m < 1 → readCall 20 l m ≡ readTold a l m
-  unfolding readTold
-  read-no-room k = rw (lt-leb 1 (length m) k, and-false)
-
-  module _ (h : 5 ≤ length l) (k : 1 ≤ length m) (x : ReadAnswer) (e : toldRead x ≡ a) where
+  module _ (h : b ≡ true) (x : ReadAnswer) (e : toldRead x ≡ a) where
     pub read-refused : (n : ℕ) → x ≡ read.Refused n → readCall n l m ≡ readTold a l m
     unfolding readTold
     read-refused n q =
         let u : refused n ≡ a = ap toldRead (sym q) ∙ e in
-        rw (le-leb 5 (length l) h, le-leb 1 (length m) k, ← u)
+        rw (← w, h, ← u)
 
     pub read-given : (l′ : List ℤ) (m′ : List Float) (raw y : ℤ) (p : Physical) (s : Shown) → x ≡ read.Element raw p s → y ≡ raw
         → (l′ ≡ sets l 0 (fiveOf y p (toldShown s))) × (m′ ≡ sets m 0 (numberShown (toldShown s) ∷ [])) → readCall 0 l′ m′ ≡ readTold a l m
     unfolding readTold
     read-given l′ m′ raw y p s q r z =
         let u : given (record { raw = raw; value = p; display = toldShown s }) ≡ a = ap toldRead (sym q) ∙ e in
-        let v : l′ ≡ laidOver (fiveOf raw p (toldShown s)) l = z .0 ∙ rw r (front-put (fiveOf raw p (toldShown s)) l h) in
-        let w : m′ ≡ laidOver (numberShown (toldShown s) ∷ []) m = z .1 ∙ front-put (numberShown (toldShown s) ∷ []) m k in
-        rw (le-leb 5 (length l) h, le-leb 1 (length m) k, ← u, v, w)
+        let k : (5 ≤ length l) × (1 ≤ length m) = both-hold l m (sym w ∙ h) in
+        let v : l′ ≡ laidOver (fiveOf raw p (toldShown s)) l = z .0 ∙ rw r (front-put (fiveOf raw p (toldShown s)) l (k .0)) in
+        let o : m′ ≡ laidOver (numberShown (toldShown s) ∷ []) m = z .1 ∙ front-put (numberShown (toldShown s) ∷ []) m (k .1) in
+        rw (← w, h, ← u, v, o)
 
-pub ruleset reads = (read-short, read-no-room, read-refused, read-given, needs)
+pub ruleset reads = (read-short, read-refused, read-given, needs)

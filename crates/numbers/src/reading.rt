@@ -2,11 +2,23 @@
 use convert::fraction::Physical;
 use convert::fraction::Shown;
 ghost use mathlib.Core.Path.{_≡_};
+ghost use mathlib.Core.Bool.{_&&_};
 ghost use mathlib.Core.List.{[], _∷_};
+ghost use lib.Dec.{leb};
 ghost use lib.ListN.{set};
 ghost use lib.Seq.{sets};
 ghost use Rattle.convert.specs.Told.{toldShown};
 ghost use Rattle.numbers.specs.Numbers.{kindShown, numberShown, fiveOf};
+
+// How many numbers a reading has: raw, state, the two numbers, what is shown.
+const READING: usize = 5;
+
+// Whether lent slices of these lengths have room for a reading and its shown number.
+pub fn has_room(out: usize, shown: usize) -> bool
+    ensures { λ r. ⌜ r ≡ (leb 5 out && leb 1 shown) ⌝ }
+{
+    (READING <= out) & (1 <= shown)
+}
 
 // What is shown, as a number: 0 nothing, 1 a number, 2 a text.
 fn shown_kind(s: Shown) -> i64

@@ -7,11 +7,11 @@ pub obarsivel-read-spec : {M : Type 1} → statement M
 obarsivel-read-spec =
     tie.close
     (tie.spec
-    (λ c. search reads)
-    (λ c. search reads)
+    (λ c κs. search reads)
     (λ c κs. search reads)
     (λ c. search reads)
     (λ c κs. search reads)
+    (λ c. search reads)
     (λ c. search reads)
     (λ c. search reads)
     (λ c. search reads)

@@ -1,35 +1,6 @@
-// The tables that a load leaves.
-mod group;
-mod method;
-mod object;
-mod part;
-mod row;
-mod table;
-
-use crate::group::put_groups;
-use crate::method::put_methods;
-use crate::object::put_objects;
-use crate::row::put_row_of_three;
-use crate::table::put_entries;
-use crate::table::put_tables;
-use tables::form::HEAD;
-ghost use mathlib.Core.Path.{_≡_};
-ghost use Prim.Native.Nat.{_≤_};
-ghost use lib.ListN.{length, replicate};
-ghost use Rattle.records.specs.Cells.{room, encode};
-ghost use Rattle.grammar.specs.Move.{viewIn};
-ghost use Rattle.tables.specs.Form.{tableSections};
-ghost use Rattle.build.specs.Build.{built};
-
-// Fills the tables, which are zeros, with what calls need of the records t and of where the objects stand.
-pub fn build(image: &[u8], base: u32, x: &[u8], t: &[u64], u: &mut [u64], elements: u32)
-    requires { ⌜ (now u ≡ replicate (length (now u)) 0) × (room tableSections ≤ length (now u)) ⌝ }
-    ensures { λ _. ⌜ now (u .exit) ≡ encode tableSections (length (now (u .entry))) (built (now (image .entry)) base (now (x .entry)) (viewIn (now (t .entry))) elements) ⌝ }
-{
-    put_row_of_three(u, HEAD, 0, 0, elements as u64);
-    put_objects(u, t);
-    put_groups(u, image, base, x, t);
-    put_methods(u, x, t);
-    put_tables(u, t);
-    put_entries(u, t);
-}
+// The tables' records from the description's: rows of objects, methods and verbal tables, and the parts of a group's row.
+pub mod method;
+pub mod object;
+pub mod part;
+pub mod row;
+pub mod table;

@@ -1,15 +1,15 @@
 // The whole load: a description read, judged and turned into tables, or refused.
-use build::build;
+use built::build;
 use engine::read::read;
 use grammar::state::ReadAnswer;
 use grammar::view::ROOM;
 use methods::Converted;
 use methods::convert_all;
 use objects::stage::Turn;
-use objects::stage::judge_all;
 use refer::Reference;
 use refer::refer_all;
 use tables::sizes::sizes_fit;
+use turns::judge_all;
 ghost use mathlib.Core.Path.{_≡_};
 ghost use Prim.Native.Nat.{_≤_};
 ghost use lib.ListN.{length, replicate};

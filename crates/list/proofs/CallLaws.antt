@@ -8,12 +8,10 @@ use lib.Dec.{leb}
 use lib.IntN.{ℤ}
 use mir.Facts.{toZ-ofZ}
 use Rattle.number.specs.Answer.{Answer, given}
-use Rattle.cell.specs.Kind.{shapeOf}
-use Rattle.cell.specs.Raw.{written}
 use Rattle.convert.specs.Told.{toldRaw}
 use Rattle.convert.specs.declared.asked.RawAnswer.{RawAnswer}
 use Rattle.convert.specs.declared.asked.RawAnswer.the-variants as wanted
-use Rattle.tables.specs.Form.{tablesIn, total, kind, first, mask}
+use Rattle.tables.specs.Form.{tablesIn, total}
 use Rattle.number.specs.Below.{sumBelow}
 use Rattle.tables.specs.Group.{groupOf, elements, bytes, placeOf}
 use Rattle.look.specs.Element.{pastRecords}
@@ -22,7 +20,7 @@ use Rattle.look.specs.Steps.{picked, checkedNo, elementNo}
 use Rattle.look.specs.Told.{after}
 use Rattle.look.specs.declared.call.CallAnswer.the-variants as call
 use Rattle.look.proofs.CheckLaws.{checked-refused, checked-passed, group-is}
-use Rattle.list.proofs.StandLaws.{standing-refused, standing-passed, stands-so}
+use Rattle.wanted.proofs.StandLaws.{standing-refused, standing-passed, stands-so}
 use Rattle.afresh.proofs.RefreshLaws.{refreshed-all}
 use Rattle.look.proofs.RoomLaws.{lines-hold}
 
@@ -99,11 +97,6 @@ pub ruleset raw-writes = (tt, toZ-ofZ, write-room, write-refused, write-raw-is)
 pub ruleset physical-writes = (tt, write-room, write-refused, write-is)
 
 -- ---- an accepted write
-pub store-raw-is : (t image image′ : List ℕ) (g i p k m : ℕ) (b : Bool) (z y : ℤ) → image′ ≡ written b p (shapeOf k) m y image → y ≡ z
-    → p ≡ placeOf (tablesIn t) g i → k ≡ kind (tablesIn t) g → b ≡ first (tablesIn t) g → m ≡ mask (tablesIn t) g → image′ ≡ stored t g i image z
-unfolding stored
-store-raw-is t image image′ g i p k m b z y e h pp pk pb pm = e ∙ rw (h, pp, pk, pb, pm)
-
 pub store-is : (t image image′ : List ℕ) (r : List ℤ) (s : List ℕ) (a b : List ℤ) (k′ : Kept) (g i p w : ℕ) (z y : ℤ) → image′ ≡ stored t g i image y → y ≡ z
     → p ≡ placeOf (tablesIn t) g i → w ≡ bytes (tablesIn t) g → k′ ≡ refreshed (picked t p (p + w) false) t image′ (kept image′ r s a b)
     → k′ ≡ writtenTo t g i (kept image r s a b) z
@@ -116,6 +109,6 @@ carried k k′ f x z y e h q = rw (q, h, e)
 pub not-carried : (k : Kept) (f : ℤ → Kept) (x : RawAnswer) (n : ℕ) → x ≡ wanted.Refused n → after (call.Refused n) k ≡ afterwards (toldRaw x) k f
 not-carried k f x n e = rw e
 
-pub ruleset stores = (store-raw-is, store-is, needs)
+pub ruleset stores = (store-is, needs)
 
 pub ruleset carries = (carried, not-carried, needs)

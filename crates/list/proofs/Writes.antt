@@ -31,7 +31,7 @@ use Rattle.look.specs.Element.{rawIn, touched}
 use Rattle.look.specs.Calls.{Lent, lentBy, isElement, Kept, groups, hasRoom, remade, refreshed, After, afterwards, Wanted, rawNumber, physicalText, Request, groupIn, asksBy, isTabVerb, wantedRaw, judgedRequest, stored, writtenTo, writing, lineAt, withImage}
 use Rattle.look.specs.Steps.{elementNo}
 use Rattle.look.proofs.CheckLaws.{checked-tests, named}
-use Rattle.list.proofs.StandLaws.{Stands, standing-refused, standing-passed, stands-so}
+use Rattle.wanted.proofs.StandLaws.{Stands, standing-refused, standing-passed, stands-so}
 use Rattle.list.proofs.Writer.{SameOutside, writer-remade, line-kept, rest-kept, Anew, writer-anew}
 
 pub never : {A : Type 0} (n : ℕ) (a : A) → refused n ≡ given a → ⊥

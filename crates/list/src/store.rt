@@ -1,25 +1,14 @@
 // An accepted write: the image's bytes and the lines that share one with them.
 use afresh::refresh::refresh;
-use cell::raw::write_raw;
 use tables::group::bytes_of;
-use tables::group::is_first;
-use tables::group::kind_of;
-use tables::group::mask_of;
 use tables::group::place_of;
+use wanted::stored::store_raw;
 ghost use mathlib.Core.Path.{_≡_};
 ghost use Prim.Native.Nat.{_≤_};
 ghost use Rattle.tables.specs.Form.{tablesIn};
 ghost use Rattle.number.specs.Below.{sumBelow};
 ghost use Rattle.tables.specs.Group.{elements};
-ghost use Rattle.look.specs.Calls.{kept, room, groups, stored, writtenTo};
-
-// Stores a raw number in an element's bytes.
-fn store_raw(t: &[u64], image: &mut [u8], g: u16, i: u32, z: i64)
-    ensures { λ _. ⌜ now (image .exit) ≡ stored (now (t .entry)) g i (now (image .entry)) z ⌝ }
-{
-    let at = place_of(t, g, i) as usize;
-    write_raw(image, at, kind_of(t, g), is_first(t, g), mask_of(t, g), z);
-}
+ghost use Rattle.look.specs.Calls.{kept, room, groups, writtenTo};
 
 // Stores a raw number in an element, and works out afresh every line that shares a byte with it.
 pub fn store(

@@ -1,13 +1,13 @@
 // Writes: judged in full, and then stored or refused.
-use crate::stand::judge;
 use crate::store::store;
-use crate::wanted::raw_asked;
-use crate::wanted::raw_wanted;
 use convert::asked::RawAnswer;
 use look::call::CallAnswer;
 use look::check::group_of;
 use look::room::is_enough;
 use look::room::room_of;
+use wanted::stand::judge;
+use wanted::wanted::raw_asked;
+use wanted::wanted::raw_wanted;
 ghost use mathlib.Core.Path.{_≡_};
 ghost use Prim.Native.Nat.{_≤_};
 ghost use lib.ListN.{length};

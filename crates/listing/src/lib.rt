@@ -1,4 +1,3 @@
-// The printed listing: values, lines, and a whole listing into a lent buffer.
-pub mod element;
-mod line;
+// What a listing has, and a printed line into a lent buffer.
+pub mod line;
 pub mod listing;

@@ -43,14 +43,7 @@ fn put_fraction(out: &mut [u8], at: usize, n: i64, d: i64) -> usize
 }
 
 // Puts a value: a fraction, a text of the description, or a minus for none.
-pub fn put_physical(
-    out: &mut [u8],
-    at: usize,
-    x: &[u8],
-    state: u8,
-    first: i64,
-    second: i64,
-) -> usize
+fn put_physical(out: &mut [u8], at: usize, x: &[u8], state: u8, first: i64, second: i64) -> usize
     requires { ⌜ (at < 2 ^ 57) × (length (now x) ≤ 2 ^ 24) ⌝ }
     ensures { λ r. ⌜ Put at (physical (now (x .entry)) state first second) (now (out .entry)) r (now (out .exit)) × (r ≤ at + (2 ^ 24 + 43)) ⌝ }
 {

@@ -1,4 +1,4 @@
-// The value list's definitions, and what reads and changes nothing: one element, the search by name, what every call tests first.
+// The value list's definitions, and what reads and changes nothing: one element, what every call tests first.
 pub mod bytes;
 pub mod call;
 pub mod check;

@@ -1,72 +1,8 @@
-// The plain search: the first object that bears a name.
-use crate::check::check;
-use tables::form::OBJECT;
-use tables::form::count_of;
-use tables::form::slot_of;
-use text::bytes::byte_at;
-ghost use mathlib.Core.Path.{_≡_};
-ghost use mathlib.Core.Bool.{_&&_};
-ghost use Prim.Native.Nat.{_-_};
-ghost use lib.Dec.{leb, eqb};
-ghost use lib.ListN.{length};
-ghost use Rattle.number.specs.Answer.{given};
-ghost use Rattle.tables.specs.Form.{objectSection, tablesIn};
-ghost use Rattle.look.specs.Calls.{lentOf, searchFrom, searched};
-ghost use Rattle.look.specs.Told.{toldSearch};
+// What a search by name answers.
 
 // Where a name was found, or the number of the refusal.
 pub enum SearchAnswer {
     At(u16),
     Nothing,
     Refused { no: u8 },
-}
-
-// Whether the bytes between two places are so many.
-fn are_as_many(from: usize, to: usize, n: usize) -> bool
-    ensures { λ r. ⌜ r ≡ (leb from to && leb 0 n && eqb (to - from) (n - 0)) ⌝ }
-{
-    if to < from {
-        return false;
-    }
-    to - from == n
-}
-
-// The first object that bears a name.
-fn find(x: &[u8], t: &[u64], name: &[u8]) -> SearchAnswer
-    ensures { λ r. ⌜ toldSearch r ≡ given (searchFrom (tablesIn (now (t .entry)) .counts objectSection) (now (x .entry)) (tablesIn (now (t .entry))) (now (name .entry)) 0) ⌝ }
-{
-    let count = count_of(t, OBJECT);
-    let n = name.len();
-    let mut i: u16 = 0;
-    'objects: loop {
-        if count <= i {
-            break SearchAnswer::Nothing;
-        }
-        let from = slot_of(t, OBJECT, i, 0) as usize;
-        let to = slot_of(t, OBJECT, i, 1) as usize;
-        if are_as_many(from, to, n) {
-            let mut k: usize = 0;
-            loop {
-                if n <= k {
-                    break 'objects SearchAnswer::At(i);
-                }
-                if byte_at(x, from + k) != byte_at(name, k) {
-                    break;
-                }
-                k += 1;
-            }
-        }
-        i += 1;
-    }
-}
-
-// Searches for an object's number by its name.
-pub fn search(x: &[u8], image: &[u8], base: u32, t: &[u64], name: &[u8]) -> SearchAnswer
-    ensures { λ r. ⌜ toldSearch r ≡ searched (now (x .entry)) (now (t .entry)) (lentOf (length (now (x .entry))) (length (now (image .entry))) base) (now (name .entry)) ⌝ }
-{
-    let no = check(x.len(), image.len(), base, t, true);
-    if no != 0 {
-        return SearchAnswer::Refused { no };
-    }
-    find(x, t, name)
 }

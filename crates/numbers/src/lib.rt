@@ -1,4 +1,3 @@
-// Each answer as a number, and a reading as five: what the C functions answer.
-pub mod reading;
+// Each answer as a number: what the C functions answer.
 pub mod told;
 pub mod version;

@@ -12,7 +12,7 @@ use list::write::write_physical;
 use list::write::write_raw;
 use look::call::CallAnswer;
 use look::search::SearchAnswer;
-use look::search::search;
+use named::search;
 
 // What is wrong with a request: a refusal that was said already, its fields, its index, its name, its way.
 pub const SAID: u8 = 0;
@@ -108,6 +108,22 @@ pub fn error_of(why: u8, name: &[u8], index: &[u8], way: &[u8]) -> Ending {
     Ending::Failed
 }
 
+// The raw number of a value that is written raw, nothing of any other.
+fn typed_of(is_raw: bool, value: &[u8]) -> RawTyped {
+    if is_raw {
+        return raw_typed(value);
+    }
+    RawTyped::Nothing
+}
+
+// The physical value that is asked: a raw one that is no number asks for nothing, which has no form.
+fn asked_of(is_raw: bool, value: &[u8]) -> &[u8] {
+    if is_raw {
+        return &value[..0];
+    }
+    value
+}
+
 // Carries out one write. A raw value that is no number is 15 in its place in the order of refusals, as an asked value without a form is.
 pub fn write_one(
     x: &[u8],
@@ -124,39 +140,8 @@ pub fn write_one(
     is_raw: bool,
     value: &[u8],
 ) -> CallAnswer {
-    if is_raw {
-        match raw_typed(value) {
-            RawTyped::Number(z) => write_raw(
-                x,
-                image,
-                base,
-                t,
-                raw,
-                state,
-                first,
-                second,
-                object,
-                part,
-                index,
-                z,
-            ),
-            RawTyped::Nothing => write_physical(
-                x,
-                image,
-                base,
-                t,
-                raw,
-                state,
-                first,
-                second,
-                object,
-                part,
-                index,
-                b"-",
-            ),
-        }
-    } else {
-        write_physical(
+    match typed_of(is_raw, value) {
+        RawTyped::Number(z) => write_raw(
             x,
             image,
             base,
@@ -168,7 +153,21 @@ pub fn write_one(
             object,
             part,
             index,
-            value,
-        )
+            z,
+        ),
+        RawTyped::Nothing => write_physical(
+            x,
+            image,
+            base,
+            t,
+            raw,
+            state,
+            first,
+            second,
+            object,
+            part,
+            index,
+            asked_of(is_raw, value),
+        ),
     }
 }

@@ -15,7 +15,7 @@ use list::make::make_list;
 use list::write::write_physical;
 use list::write::write_raw;
 use listing::listing::ListingAnswer;
-use listing::listing::listing;
+use listings::whole::listing;
 use load::LoadAnswer;
 use load::load;
 use look::call::CallAnswer;
@@ -71,6 +71,38 @@ fn print_answer(n: usize, r: CallAnswer) {
     }
 }
 
+// A request's words: the element, whether its value is a raw number, and where the value starts in the line.
+struct Request {
+    object: u32,
+    part: u8,
+    index: u32,
+    is_raw: bool,
+    value: usize,
+}
+
+// Whether a word says that the value is a raw number.
+fn is_raw(word: &[u8]) -> bool {
+    if 0 < word.len() {
+        return word[0] == RAW;
+    }
+    false
+}
+
+// The request of one line.
+fn request_of(line: &[u8]) -> Request {
+    let a = place_from(line, 0, SPACE);
+    let b = place_from(line, next(a), SPACE);
+    let c = place_from(line, next(b), SPACE);
+    let d = place_from(line, next(c), SPACE);
+    Request {
+        object: number_at(between(line, 0, a)),
+        part: part_of(between(line, next(a), b)),
+        index: number_at(between(line, next(b), c)),
+        is_raw: is_raw(between(line, next(c), d)),
+        value: next(d),
+    }
+}
+
 // Carries out the request of one line on the image and the list.
 fn apply(
     line: &[u8],
@@ -83,33 +115,24 @@ fn apply(
     first: &mut [i64],
     second: &mut [i64],
 ) -> CallAnswer {
-    let a = place_from(line, 0, SPACE);
-    let b = place_from(line, next(a), SPACE);
-    let c = place_from(line, next(b), SPACE);
-    let d = place_from(line, next(c), SPACE);
-    let object = number_at(between(line, 0, a));
-    let part = part_of(between(line, next(a), b));
-    let index = number_at(between(line, next(b), c));
-    let word = between(line, next(c), d);
-    let value = between(line, next(d), line.len());
-    if 0 < word.len() {
-        if word[0] == RAW {
-            let number = number_at(value) as i64;
-            return write_raw(
-                x,
-                image,
-                base,
-                t,
-                raw,
-                state,
-                first,
-                second,
-                object,
-                part,
-                index,
-                number,
-            );
-        }
+    let q = request_of(line);
+    let value = between(line, q.value, line.len());
+    if q.is_raw {
+        let number = number_at(value) as i64;
+        return write_raw(
+            x,
+            image,
+            base,
+            t,
+            raw,
+            state,
+            first,
+            second,
+            q.object,
+            q.part,
+            q.index,
+            number,
+        );
     }
     write_physical(
         x,
@@ -120,9 +143,9 @@ fn apply(
         state,
         first,
         second,
-        object,
-        part,
-        index,
+        q.object,
+        q.part,
+        q.index,
         value,
     )
 }
@@ -213,14 +236,12 @@ fn print_hex(s: &[u8]) {
     io::write_all(STDOUT_FILENO, b"\n");
 }
 
-// Makes a list with columns that are too short, and one with tables of zeros: 20 and 22.
-fn run_refused(x: &[u8], image: &[u8], base: u32, t: &[u64]) {
+// Makes a list with a column that is too short: 20.
+fn run_short(x: &[u8], image: &[u8], base: u32, t: &[u64]) {
     let mut raw = [0i64; LINES];
     let mut state = [0u8; LINES];
     let mut first = [0i64; LINES];
-    let mut second = [0i64; LINES];
     let mut one = [0i64; 1];
-    let zeros = [0u64; TABLE_CELLS];
     let short = make_list(
         x,
         image,
@@ -232,6 +253,15 @@ fn run_refused(x: &[u8], image: &[u8], base: u32, t: &[u64]) {
         &mut one,
     );
     print_answer(0, short);
+}
+
+// Makes a list with tables of zeros: 22.
+fn run_damaged(x: &[u8], image: &[u8], base: u32) {
+    let mut raw = [0i64; LINES];
+    let mut state = [0u8; LINES];
+    let mut first = [0i64; LINES];
+    let mut second = [0i64; LINES];
+    let zeros = [0u64; TABLE_CELLS];
     let damaged = make_list(
         x,
         image,
@@ -245,7 +275,39 @@ fn run_refused(x: &[u8], image: &[u8], base: u32, t: &[u64]) {
     print_answer(0, damaged);
 }
 
-// Makes the list, applies the requests, writes the listing and the image.
+// Writes the listing and the image.
+fn print_end(
+    x: &[u8],
+    image: &[u8],
+    base: u32,
+    t: &[u64],
+    raw: &[i64],
+    state: &[u8],
+    first: &[i64],
+    second: &[i64],
+) {
+    print_listing(x, image, base, t, raw, state, first, second);
+    print_hex(image);
+}
+
+// Writes the listing of the list that was made, applies the requests, and writes listing and image after them.
+fn run_made(
+    q: &[u8],
+    x: &[u8],
+    image: &mut [u8],
+    base: u32,
+    t: &[u64],
+    raw: &mut [i64],
+    state: &mut [u8],
+    first: &mut [i64],
+    second: &mut [i64],
+) {
+    print_listing(x, image, base, t, raw, state, first, second);
+    apply_all(q, x, image, base, t, raw, state, first, second);
+    print_end(x, image, base, t, raw, state, first, second);
+}
+
+// Makes the list, and goes on with it.
 fn run(q: &[u8], x: &[u8], image: &mut [u8], base: u32, t: &[u64]) {
     let mut raw = [0i64; LINES];
     let mut state = [0u8; LINES];
@@ -262,8 +324,7 @@ fn run(q: &[u8], x: &[u8], image: &mut [u8], base: u32, t: &[u64]) {
         &mut second,
     );
     print_answer(0, made);
-    print_listing(x, image, base, t, &raw, &state, &first, &second);
-    apply_all(
+    run_made(
         q,
         x,
         image,
@@ -274,8 +335,15 @@ fn run(q: &[u8], x: &[u8], image: &mut [u8], base: u32, t: &[u64]) {
         &mut first,
         &mut second,
     );
-    print_listing(x, image, base, t, &raw, &state, &first, &second);
-    print_hex(image);
+}
+
+// Writes a load's refusal.
+fn print_refusal(no: u8, place: usize) {
+    io::write_all(STDOUT_FILENO, b"refused ");
+    io::print_decimal(STDOUT_FILENO, no as u64);
+    io::write_all(STDOUT_FILENO, b" at ");
+    io::print_decimal(STDOUT_FILENO, place as u64);
+    io::write_all(STDOUT_FILENO, b"\n");
 }
 
 // Loads the description and runs the requests that follow it.
@@ -284,16 +352,11 @@ fn run_loaded(q: &[u8], x: &[u8], image: &mut [u8], base: u32) {
     let mut work = [0u64; WORK_CELLS];
     match load(x, image, base, &mut t, &mut work) {
         LoadAnswer::Accepted => {
-            run_refused(x, image, base, &t);
+            run_short(x, image, base, &t);
+            run_damaged(x, image, base);
             run(q, x, image, base, &t);
         }
-        LoadAnswer::Refused { no, place } => {
-            io::write_all(STDOUT_FILENO, b"refused ");
-            io::print_decimal(STDOUT_FILENO, no as u64);
-            io::write_all(STDOUT_FILENO, b" at ");
-            io::print_decimal(STDOUT_FILENO, place as u64);
-            io::write_all(STDOUT_FILENO, b"\n");
-        }
+        LoadAnswer::Refused { no, place } => print_refusal(no, place),
     }
 }
 

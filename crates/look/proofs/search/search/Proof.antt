@@ -1,7 +1,0 @@
--- `look::search::search` meets its contract. Assumes nothing.
-use Rattle.look.proofs.search.search.Statement.{statement}
-use Rattle.look.proofs.search.search.Tie as tie
-use Rattle.look.proofs.SearchLaws.{searches}
-
-pub search-spec : {M : Type 1} → statement M
-search-spec = tie.close (tie.spec (λ c κs. search searches) (λ c. search searches) (λ c κs. search searches) (λ c. search searches))

@@ -1,8 +1,0 @@
--- `numbers::reading::shown_kind` meets its contract. Assumes nothing.
-use Rattle.numbers.proofs.reading.shown_kind.Statement.{statement}
-use Rattle.numbers.proofs.reading.shown_kind.Tie as tie
-use Rattle.numbers.proofs.ReadingLaws.{showns}
-
-pub shown-kind-spec : {M : Type 1} → statement M
-shown-kind-spec =
-    tie.close (tie.spec (λ c. search showns) (λ c. search showns) (λ c. search showns) (λ c. search showns) (λ c. search showns) (λ c. search showns))

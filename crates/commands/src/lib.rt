@@ -1,5 +1,4 @@
-// The program's commands: `list`, `get`, `set`, `apply`. Nothing of the reader rests on it.
-mod get;
-mod listed;
-pub mod run;
-mod set;
+// The program's commands `list`, `get` and `set`. Nothing of the reader rests on it.
+pub mod get;
+pub mod listed;
+pub mod set;

@@ -22,7 +22,26 @@ use requests::requested::error_of;
 use requests::requested::way_of;
 use requests::requested::write_one;
 
-// Writes to the kept list and to the image, replaces its file, and writes the lines that were worked out afresh.
+// Replaces the image's file, and writes the lines that were worked out afresh.
+fn print_set(
+    x: &[u8],
+    image: &[u8],
+    base: u32,
+    t: &[u64],
+    raw: &[i64],
+    state: &[u8],
+    first: &[i64],
+    second: &[i64],
+    g: u16,
+    index: u32,
+) -> Ending {
+    if is_kept(image) {
+        return print_afresh(x, image, base, t, raw, state, first, second, g, index);
+    }
+    Ending::Failed
+}
+
+// Writes to the kept list and to the image, and goes on with the image's file and the lines.
 fn set_kept(
     x: &[u8],
     image: &mut [u8],
@@ -53,23 +72,18 @@ fn set_kept(
         is_raw,
         value,
     ) {
-        CallAnswer::Done => {
-            if is_kept(image) {
-                return print_afresh(
-                    x,
-                    image,
-                    base,
-                    t,
-                    raw,
-                    state,
-                    first,
-                    second,
-                    group_of(object, part),
-                    index,
-                );
-            }
-            Ending::Failed
-        }
+        CallAnswer::Done => print_set(
+            x,
+            image,
+            base,
+            t,
+            raw,
+            state,
+            first,
+            second,
+            group_of(object, part),
+            index,
+        ),
         CallAnswer::Refused { no } => refused(no),
     }
 }

@@ -1,5 +1,7 @@
 // The program: lists, reads and writes the elements that a description finds in an image. README.md shows how it is used.
-use commands::run::run;
+mod run;
+
+use crate::run::run;
 use console::arguments::Command;
 use console::arguments::command_typed;
 use console::arguments::has_words;

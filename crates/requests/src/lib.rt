@@ -1,3 +1,2 @@
-// The writes that a person asks for: one element's, and a file of them. Nothing of the reader rests on it.
-pub mod apply;
+// The element and the write that a person names. Nothing of the reader rests on it.
 pub mod requested;

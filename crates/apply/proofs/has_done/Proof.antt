@@ -1,5 +1,5 @@
-use Rattle.requests.proofs.apply.has_done.Statement.{statement}
-use Rattle.requests.proofs.apply.has_done.Tie as tie
+use Rattle.apply.proofs.has_done.Statement.{statement}
+use Rattle.apply.proofs.has_done.Tie as tie
 use borrow.Author.Needs.{needs}
 use Prim.Native.Nat.{_-_}
 use lib.ListN.{length}

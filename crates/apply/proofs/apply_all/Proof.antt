@@ -1,5 +1,5 @@
-use Rattle.requests.proofs.apply.apply_all.Statement.{statement}
-use Rattle.requests.proofs.apply.apply_all.Tie as tie
+use Rattle.apply.proofs.apply_all.Statement.{statement}
+use Rattle.apply.proofs.apply_all.Tie as tie
 use borrow.Author.Needs.{needs}
 use Prim.Native.Nat.{_-_, _≤_}
 use lib.ListN.{length}

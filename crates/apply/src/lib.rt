@@ -1,13 +1,4 @@
-// The command `apply`: a file of requests, a line each.
-use crate::requested::ElementTyped;
-use crate::requested::NO_FIELDS;
-use crate::requested::NO_WAY;
-use crate::requested::SAID;
-use crate::requested::Way;
-use crate::requested::complain_of;
-use crate::requested::element_named;
-use crate::requested::way_of;
-use crate::requested::write_one;
+// The command `apply`: a file of requests, a line each. Nothing of the reader rests on it.
 use console::arguments::REQUESTS;
 use console::ending::Ending;
 use console::ending::complain;
@@ -30,6 +21,15 @@ use lines::field::line_end;
 use list::make::make_list;
 use look::call::CallAnswer;
 use printing::lines::print_listing;
+use requests::requested::ElementTyped;
+use requests::requested::NO_FIELDS;
+use requests::requested::NO_WAY;
+use requests::requested::SAID;
+use requests::requested::Way;
+use requests::requested::complain_of;
+use requests::requested::element_named;
+use requests::requested::way_of;
+use requests::requested::write_one;
 
 // How many fields a request has, and which they are.
 const FIELDS: usize = 5;
@@ -315,7 +315,38 @@ fn is_settled(answers: &[u8], image: &[u8]) -> bool {
     true
 }
 
-// Carries out the requests on the kept list, replaces the image's file, and writes the answers and the listing.
+// How the program ends after a listing that ended so.
+fn ending_after(listed: Ending, answers: &[u8]) -> Ending {
+    match listed {
+        Ending::Done => ending_of(answers),
+        Ending::Refused => Ending::Refused,
+        Ending::Failed => Ending::Failed,
+    }
+}
+
+// Settles the image's file, and writes the answers and the listing.
+fn print_kept(
+    x: &[u8],
+    image: &[u8],
+    base: u32,
+    t: &[u64],
+    raw: &[i64],
+    state: &[u8],
+    first: &[i64],
+    second: &[i64],
+    answers: &[u8],
+) -> Ending {
+    if is_settled(answers, image) {
+        print_answers(answers);
+        return ending_after(
+            print_listing(x, image, base, t, raw, state, first, second),
+            answers,
+        );
+    }
+    Ending::Failed
+}
+
+// Carries out the requests on the kept list, and goes on with their answers.
 fn apply_kept(
     q: &[u8],
     x: &[u8],
@@ -343,15 +374,17 @@ fn apply_kept(
     if ANSWERS < n {
         return error_about(b"there are more requests than answers can be kept of", b"");
     }
-    if is_settled(front(&answers, n), image) {
-        print_answers(front(&answers, n));
-        return match print_listing(x, image, base, t, raw, state, first, second) {
-            Ending::Done => ending_of(front(&answers, n)),
-            Ending::Refused => Ending::Refused,
-            Ending::Failed => Ending::Failed,
-        };
-    }
-    Ending::Failed
+    print_kept(
+        x,
+        image,
+        base,
+        t,
+        raw,
+        state,
+        first,
+        second,
+        front(&answers, n),
+    )
 }
 
 // Makes the list that is kept over the requests, which are all well formed.

@@ -1,7 +1,8 @@
 // A command from its files on: they are read, the description is loaded, and the command is carried out.
-use crate::get::get;
-use crate::listed::list;
-use crate::set::set;
+use apply::apply;
+use commands::get::get;
+use commands::listed::list;
+use commands::set::set;
 use console::arguments::BASE;
 use console::arguments::BaseTyped;
 use console::arguments::Command;
@@ -25,7 +26,6 @@ use files::file::FileRead;
 use files::file::read_file;
 use load::LoadAnswer;
 use load::load;
-use requests::apply::apply;
 
 // "base plus image above 2^32"
 const SIZES: u8 = 20;

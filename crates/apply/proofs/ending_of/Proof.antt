@@ -1,5 +1,5 @@
-use Rattle.requests.proofs.apply.ending_of.Statement.{statement}
-use Rattle.requests.proofs.apply.ending_of.Tie as tie
+use Rattle.apply.proofs.ending_of.Statement.{statement}
+use Rattle.apply.proofs.ending_of.Tie as tie
 use borrow.Author.Needs.{needs}
 use Prim.Native.Nat.{_-_}
 use lib.ListN.{length}

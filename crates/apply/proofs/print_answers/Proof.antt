@@ -1,5 +1,5 @@
-use Rattle.requests.proofs.apply.print_answers.Statement.{statement}
-use Rattle.requests.proofs.apply.print_answers.Tie as tie
+use Rattle.apply.proofs.print_answers.Statement.{statement}
+use Rattle.apply.proofs.print_answers.Tie as tie
 use borrow.Author.Needs.{needs}
 use Prim.Native.Nat.{_-_}
 use lib.ListN.{length}

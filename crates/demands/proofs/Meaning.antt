@@ -33,7 +33,7 @@ use Rattle.look.specs.Element.{meansBy, means, rawIn}
 use Rattle.look.specs.Calls.{Kept, groups, hasRoom, lentBy, reading, readingOf, physicalText, request, asksBy, isTabVerb, wantedRaw, judgedRequest, writing}
 use Rattle.list.proofs.Writes.{never, same-given, accepted, refused-answer}
 use Rattle.demands.proofs.Runs.{reads-back}
-use Rattle.demands.specs.Nearest.{over, under, TwiceOff, Nearest}
+use Rattle.demands.specs.Nearest.{dividendAt, divisorAt, TwiceOff, Nearest}
 
 -- ---- the value
 
@@ -106,18 +106,18 @@ nearest-raw k p z = go (allSmall k)
     go false h = absurd (never 17 z h)
 
 module _ (k : Coefficients) (p : Scaled) (z : ℤ) (h : rawFor away k (signedOf (p .negative) (p .whole)) (pos (10 ^ p .tens)) ≡ given z) where
-  some-under : under k p ≡ pos 0 → ⊥
+  some-divisor : divisorAt k p ≡ pos 0 → ⊥
   unfolding rawFor
-  some-under e = never 17 z (quotient-none away (over k p) (under k p) e ∙ h)
+  some-divisor e = never 17 z (quotient-none away (dividendAt k p) (divisorAt k p) e ∙ h)
 
-  is-nearest : nearest away (over k p) (under k p) ≡ z
+  is-nearest : nearest away (dividendAt k p) (divisorAt k p) ≡ z
   unfolding rawFor
-  is-nearest = same-given (nearest away (over k p) (under k p)) z (quotient-is away (over k p) (under k p) some-under ∙ h)
+  is-nearest = same-given (nearest away (dividendAt k p) (divisorAt k p)) z (quotient-is away (dividendAt k p) (divisorAt k p) some-divisor ∙ h)
 
-  goes-away : TwiceOff k p z ≡ natAbs (under k p) → natAbs (over k p) < natAbs (z *ℤ under k p)
+  goes-away : TwiceOff k p z ≡ natAbs (divisorAt k p) → natAbs (dividendAt k p) < natAbs (z *ℤ divisorAt k p)
   goes-away =
-      subst (λ (y : ℤ). TwiceOff k p y ≡ natAbs (under k p) → natAbs (over k p) < natAbs (y *ℤ under k p)) is-nearest
-      (half-away (over k p) (under k p) some-under)
+      subst (λ (y : ℤ). TwiceOff k p y ≡ natAbs (divisorAt k p) → natAbs (dividendAt k p) < natAbs (y *ℤ divisorAt k p)) is-nearest
+      (half-away (dividendAt k p) (divisorAt k p) some-divisor)
 
 -- what an element of group g is asked by
 abbrev pub NearestIn : Tables → ℕ → List ℕ → ℤ → Type 0
@@ -131,7 +131,7 @@ stores-so T g s z h =
       asked = a .asked;
       form = a .form;
       within = a .within;
-      some = some-under (asksBy T g) (a .asked) z r;
+      some = some-divisor (asksBy T g) (a .asked) z r;
       near = stored-near away (asksBy T g) (signedOf (a .asked .negative) (a .asked .whole)) (pos (10 ^ a .asked .tens)) z r;
       away = goes-away (asksBy T g) (a .asked) z r;
       fits = a .fits;

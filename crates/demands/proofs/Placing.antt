@@ -22,7 +22,7 @@ use Rattle.place.specs.declared.walk.Places.{Places}
 use Rattle.place.specs.declared.walk.Reached.{Reached}
 use Rattle.list.proofs.Writes.{never, same-given}
 use Rattle.tree.specs.Tree.{Among}
-use Rattle.demands.specs.Placed.{StartsAt, addressFor, pastPart, Stand, noMore, absent, stands, LayoutKeeps, Placed}
+use Rattle.demands.specs.Placed.{StartsAt, addressFor, pastPart, Stand, noMore, absent, stands, LayoutKeeps, ObjectPlaced}
 use Rattle.demands.proofs.Ordering.{in-order-keeps, in-order-row}
 use Rattle.demands.proofs.Roles.{entryFor, partFor, its-own, has-part, differing, wrote, wrote-here}
 use Rattle.demands.proofs.Layouts.{layout-keeps, has-points, points-within, points-are}
@@ -185,7 +185,7 @@ module _ (g : Ground) (n : Need) (image : List ℕ) where
     starts-nowhere CountX = refl
     starts-nowhere CountY = refl
 
-    is-placed : LayoutKeeps n l → within (n .x) ≡ true → within (n .y) ≡ true → (t : Reached) → allPlaced g n image (given (start g n)) ps ≡ given t → Placed g n image (t .places) l
+    is-placed : LayoutKeeps n l → within (n .x) ≡ true → within (n .y) ≡ true → (t : Reached) → allPlaced g n image (given (start g n)) ps ≡ given t → ObjectPlaced g n image (t .places) l
     unfolding start
     is-placed k x y t h =
         let r : Reaches (start g n) ps (t .places) = reaches ps (ordered k) (start g n) t h in
@@ -197,7 +197,7 @@ module _ (g : Ground) (n : Need) (image : List ℕ) where
           nowhere = λ q m e. sym (r .agree .address (q .role) (absent-lacked (q .role) (rw (its-own l q m) at e))) ∙ starts-nowhere (q .role);
         }
 
-    module _ (p : Places) (k : Placed g n image p l) where
+    module _ (p : Places) (k : ObjectPlaced g n image p l) where
       agrees : Agree ps (start g n .places) p
       unfolding start
       agrees =
@@ -224,12 +224,12 @@ module _ (g : Ground) (n : Need) (image : List ℕ) where
           (ends p (k .stand) (ordered (k .rules)) all-read (start g n .places) agrees)
 
   -- an object's layout gives where its parts stand, and how many points they have, exactly if they stand so
-  pub placed-exactly : (l : Layout) (p : Places) → ((t : Reached) × (placement g n image l ≡ given t) × (t .places ≡ p)) ↔ Placed g n image p l
+  pub placed-exactly : (l : Layout) (p : Places) → ((t : Reached) × (placement g n image l ≡ given t) × (t .places ≡ p)) ↔ ObjectPlaced g n image p l
   unfolding placement
-  placed-exactly l p = (λ z. subst (λ (q : Places). Placed g n image q l) (z .2) (forth (z .0) (soundLayout n l) (within (n .x)) (within (n .y)) refl refl refl (z .1)), placed-is l p)
+  placed-exactly l p = (λ z. subst (λ (q : Places). ObjectPlaced g n image q l) (z .2) (forth (z .0) (soundLayout n l) (within (n .x)) (within (n .y)) refl refl refl (z .1)), placed-is l p)
     where
       forth : (t : Reached) (a b c : Bool) → soundLayout n l ≡ a → within (n .x) ≡ b → within (n .y) ≡ c
-          → cond a (cond (b && c) (allPlaced g n image (given (start g n)) (inOrder (parts l))) (refused 13)) (refused 11) ≡ given t → Placed g n image (t .places) l
+          → cond a (cond (b && c) (allPlaced g n image (given (start g n)) (inOrder (parts l))) (refused 13)) (refused 11) ≡ given t → ObjectPlaced g n image (t .places) l
       forth t true true true e f h q = is-placed l (layout-keeps n l .0 e) f h t q
       forth t true true false e f h q = absurd (never 13 t q)
       forth t true false c e f h q = absurd (never 13 t q)

@@ -21,7 +21,7 @@ use Rattle.keeps.specs.Stands.{Part, numberOf, needed, typeOf, acrossOf, downOf
 use Rattle.look.specs.Element.{means, rawIn}
 use Rattle.look.specs.Calls.{lentOf, checked, isElement, Reading, readingOf, reading}
 use Rattle.demands.specs.Rules.{Fits, Keeps}
-use Rattle.demands.specs.Standing.{bitsOf, elementAt}
+use Rattle.demands.specs.Standing.{partMask, elementAt}
 use Rattle.demands.specs.Readings.{ReadsAs}
 use Rattle.demands.proofs.Loaded as loaded
 use Rattle.demands.proofs.Standing.{part-held}
@@ -58,7 +58,7 @@ module _ (x image : List ℕ) (base : ℕ) (lent work : List ℕ) (f : Fits x im
     answered = rw (loaded.sizes x image base lent work f k, loaded.keeps-rule x image base lent work f k, is-element)
 
     raw-is : rawIn (tablesIn t) image g j
-        ≡ rawAt (firstOf (view d) i) (elementAt x (view d) i (layoutOf x (view d) i) (k .objects i l .places) p j - base) (shapeOf (typeOf (layoutOf x (view d) i) p)) (bitsOf x (view d) i p) image
+        ≡ rawAt (firstOf (view d) i) (elementAt x (view d) i (layoutOf x (view d) i) (k .objects i l .places) p j - base) (shapeOf (typeOf (layoutOf x (view d) i) p)) (partMask x (view d) i p) image
     unfolding rawIn
     raw-is =
         let h = part-held x image base lent work f k i l p e in

@@ -34,7 +34,7 @@ use Rattle.load.specs.Load.{loaded}
 use Rattle.keeps.specs.Stands.{Part, numberOf, needed, acrossOf, downOf}
 use Rattle.look.specs.Calls.{lentOf, Reading, reading, Kept, physicalText, request, writing}
 use Rattle.demands.specs.Rules.{Fits, Keeps}
-use Rattle.demands.specs.Standing.{Holds}
+use Rattle.demands.specs.Standing.{PartHolds}
 use Rattle.demands.specs.Readings.{ReadsAs}
 use Rattle.demands.specs.Writings.{Stored}
 use Rattle.demands.specs.Powers.{MadeWhole}
@@ -60,7 +60,7 @@ module _ (x image : List ℕ) (base : ℕ) (tables work : List ℕ) where
     -- part p of object i, where the object has it
     module _ (i : ℕ) (l : i < count (k .records) object) (p : Part) (e : needed (needOf image base x (view (k .records)) i) p ≡ true) where
       -- "Every element then stands at the address and width its layout gives, inside the image"
-      pub stands : Holds x (view (k .records)) i (tablesIn (loaded x image base tables work .tables)) (groupOf i (numberOf p)) base (length image) (layoutOf x (view (k .records)) i)
+      pub stands : PartHolds x (view (k .records)) i (tablesIn (loaded x image base tables work .tables)) (groupOf i (numberOf p)) base (length image) (layoutOf x (view (k .records)) i)
           (k .objects i l .places) p
       stands = standing.part-held x image base tables work f k i l p e
 

@@ -24,7 +24,7 @@ use Rattle.keeps.specs.Stands.{Part, points-x, points-y, values, numberOf, need
 use Rattle.keeps.proofs.Bits.{flag-back}
 use Rattle.keeps.proofs.Elements.{element-stands}
 use Rattle.demands.specs.Rules.{Fits, Keeps}
-use Rattle.demands.specs.Standing.{walkOf, bitsOf, sourceOf, measures, readOnly, lowest, highest, Holds}
+use Rattle.demands.specs.Standing.{walkOf, partMask, sourceOf, measures, readOnly, partLower, partUpper, PartHolds}
 use Rattle.demands.proofs.Ruling.{places-are, keeps-accepted}
 use Rattle.demands.proofs.Loaded.{elements, made, is-read, within, same}
 
@@ -56,7 +56,7 @@ module _ (image : List ℕ) (base : ℕ) (x : List ℕ) (d : List (List (List �
   abbrev rowOf : Part → List ℕ
   rowOf p =
       standingCells (typeOf (layoutOf x v i) p) (firstOf v i) (addressOf (placesOf image base x v i) p - base) (acrossOf (placesOf image base x v i) p) (downOf (placesOf image base x v i) p) (walkOf x v i p)
-      ++ (meaning x v (sourceOf x v i p) (bitsOf x v i p) (measures x v i p) ++ countOf p)
+      ++ (meaning x v (sourceOf x v i p) (partMask x v i p) (measures x v i p) ++ countOf p)
 
   part-row : (p : Part) → needed (needOf image base x v i) p ≡ true → (k : ℕ) → T .slots groupSection (groupOf i (numberOf p)) k ≡ getD (rowOf p) k 0
   unfolding xPart yPart valuesPart knownOf
@@ -78,7 +78,7 @@ module _ (image : List ℕ) (base : ℕ) (x : List ℕ) (d : List (List (List �
     unfolding meaning
     method-is = part-row p e 8
 
-    mask-is : mask T g ≡ bitsOf x v i p
+    mask-is : mask T g ≡ partMask x v i p
     unfolding meaning
     mask-is = part-row p e 9
 
@@ -86,13 +86,13 @@ module _ (image : List ℕ) (base : ℕ) (x : List ℕ) (d : List (List (List �
     unfolding meaning forbids
     locked-is = rw (part-row p e 10) (flag-not (readOnly x v i p))
 
-    lower-is : limit T g lowerCell ≡ lowest x v i p
+    lower-is : limit T g lowerCell ≡ partLower x v i p
     unfolding meaning limitCells
-    lower-is = back (T .slots groupSection g 11) (T .slots groupSection g 12) (T .slots groupSection g 13) (lowest x v i p) (part-row p e 11) (part-row p e 12) (part-row p e 13) (omega arith)
+    lower-is = back (T .slots groupSection g 11) (T .slots groupSection g 12) (T .slots groupSection g 13) (partLower x v i p) (part-row p e 11) (part-row p e 12) (part-row p e 13) (omega arith)
 
-    upper-is : limit T g upperCell ≡ highest x v i p
+    upper-is : limit T g upperCell ≡ partUpper x v i p
     unfolding meaning limitCells
-    upper-is = back (T .slots groupSection g 14) (T .slots groupSection g 15) (T .slots groupSection g 16) (highest x v i p) (part-row p e 14) (part-row p e 15) (part-row p e 16) (omega arith)
+    upper-is = back (T .slots groupSection g 14) (T .slots groupSection g 15) (T .slots groupSection g 16) (partUpper x v i p) (part-row p e 14) (part-row p e 15) (part-row p e 16) (omega arith)
 
     element-is : (m : ℕ) (s : StandsAt T g base m (layoutOf x v i) (placesOf image base x v i) p) (j : ℕ)
         → base + placeOf T g j
@@ -106,7 +106,7 @@ module _ (image : List ℕ) (base : ℕ) (x : List ℕ) (d : List (List (List �
         rw (s .type, walk-is, s .across, a, b) in
         omega (arith, s .address, c)
 
-    holds : (m : ℕ) → StandsAt T g base m (layoutOf x v i) (placesOf image base x v i) p → Holds x v i T g base m (layoutOf x v i) (placesOf image base x v i) p
+    holds : (m : ℕ) → StandsAt T g base m (layoutOf x v i) (placesOf image base x v i) p → PartHolds x v i T g base m (layoutOf x v i) (placesOf image base x v i) p
     holds m s = record {
       stands = s;
       element = element-is m s;
@@ -121,11 +121,11 @@ module _ (image : List ℕ) (base : ℕ) (x : List ℕ) (d : List (List (List �
 -- in the tables that an accepted load leaves, part p of object i, where the object needs it
 pub part-held : (x image : List ℕ) (base : ℕ) (lent work : List ℕ) → Fits x image base lent work → (k : Keeps x image base) (i : ℕ) (l : i < count (k .records) records.object) (p : Part)
     → needed (needOf image base x (view (k .records)) i) p ≡ true
-    → Holds x (view (k .records)) i (tablesIn (loaded x image base lent work .tables)) (groupOf i (numberOf p)) base (length image) (layoutOf x (view (k .records)) i) (k .objects i l .places) p
+    → PartHolds x (view (k .records)) i (tablesIn (loaded x image base lent work .tables)) (groupOf i (numberOf p)) base (length image) (layoutOf x (view (k .records)) i) (k .objects i l .places) p
 part-held x image base lent work f k i l p e =
     let d = k .records in
     let w : Within (view d) = within x image base lent work f k in
     let n : Taken image base x (made x image base lent work f k) = record { records = d; is-read = is-read x image base lent work f k; accepted = keeps-accepted x image base k; is-built = refl } in
-    subst (λ (T : Tables). Holds x (view d) i T (groupOf i (numberOf p)) base (length image) (layoutOf x (view d) i) (k .objects i l .places) p) (sym (same x image base lent work f k))
-    (subst (λ (at : Places). Holds x (view d) i (tablesOf (made x image base lent work f k)) (groupOf i (numberOf p)) base (length image) (layoutOf x (view d) i) at p) (places-are image base x d i (k .objects i l))
+    subst (λ (T : Tables). PartHolds x (view d) i T (groupOf i (numberOf p)) base (length image) (layoutOf x (view d) i) (k .objects i l .places) p) (sym (same x image base lent work f k))
+    (subst (λ (at : Places). PartHolds x (view d) i (tablesOf (made x image base lent work f k)) (groupOf i (numberOf p)) base (length image) (layoutOf x (view d) i) at p) (places-are image base x d i (k .objects i l))
     (holds image base x d (elements x image base lent work f k) w i l p e (length image) (element-stands image base x (made x image base lent work f k) n (f .image-fits) i l p e)))

@@ -13,16 +13,16 @@ use Rattle.number.specs.Signed.{signedOf}
 use Rattle.convert.specs.Limit.{withinLimits}
 use Rattle.convert.specs.Asked.{askedOf}
 
--- "INT = (aP²+bP+c)/(dP²+eP+f); a and d must be 0", at the asked value P, a whole number over a power of ten: the quotient is over / under
-abbrev pub over : Coefficients → Scaled → ℤ
-over k p = k .b *ℤ signedOf (p .negative) (p .whole) +ℤ k .c *ℤ pos (10 ^ p .tens)
+-- "INT = (aP²+bP+c)/(dP²+eP+f); a and d must be 0", at the asked value P, a whole number over a power of ten: the quotient is dividendAt / divisorAt
+abbrev pub dividendAt : Coefficients → Scaled → ℤ
+dividendAt k p = k .b *ℤ signedOf (p .negative) (p .whole) +ℤ k .c *ℤ pos (10 ^ p .tens)
 
-abbrev pub under : Coefficients → Scaled → ℤ
-under k p = k .e *ℤ signedOf (p .negative) (p .whole) +ℤ k .f *ℤ pos (10 ^ p .tens)
+abbrev pub divisorAt : Coefficients → Scaled → ℤ
+divisorAt k p = k .e *ℤ signedOf (p .negative) (p .whole) +ℤ k .f *ℤ pos (10 ^ p .tens)
 
 -- twice the distance of z from the quotient, and twice the half of a step, both times the divisor
 abbrev pub TwiceOff : Coefficients → Scaled → ℤ → ℕ
-TwiceOff k p z = 2 * natAbs (z *ℤ under k p -ℤ over k p)
+TwiceOff k p z = 2 * natAbs (z *ℤ divisorAt k p -ℤ dividendAt k p)
 
 -- z is what a write of the text s is to store, by the limits and the coefficients of an element of a data type, under its mask
 pub record Nearest (lower upper : Scaled) (k : Coefficients) (t : Shape) (mask : ℕ) (s : List ℕ) (z : ℤ) : Type 0 where
@@ -31,9 +31,9 @@ pub record Nearest (lower upper : Scaled) (k : Coefficients) (t : Shape) (mask :
   pub form : askedOf s ≡ given asked
   pub within : withinLimits lower upper asked ≡ true
   -- "INT is the exact quotient, rounded to the nearest whole number": there is one, and z is at most half a step from it
-  pub some : under k asked ≡ pos 0 → ⊥
-  pub near : TwiceOff k asked z ≤ natAbs (under k asked)
+  pub some : divisorAt k asked ≡ pos 0 → ⊥
+  pub near : TwiceOff k asked z ≤ natAbs (divisorAt k asked)
   -- "halves away from zero": half a step from it, z is the larger in size
-  pub away : TwiceOff k asked z ≡ natAbs (under k asked) → natAbs (over k asked) < natAbs (z *ℤ under k asked)
+  pub away : TwiceOff k asked z ≡ natAbs (divisorAt k asked) → natAbs (dividendAt k asked) < natAbs (z *ℤ divisorAt k asked)
   -- it fits type and mask
   pub fits : fitsRaw t mask z ≡ true

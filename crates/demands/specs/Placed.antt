@@ -110,7 +110,7 @@ pub record HasPoints (image : List ℕ) (g : Ground) (a : Axis) (e : Entry) (at 
 
 -- ---- an object: the parts of the layout l stand at the places p
 
-pub record Placed (g : Ground) (n : Need) (image : List ℕ) (p : Places) (l : Layout) : Type 0 where
+pub record ObjectPlaced (g : Ground) (n : Need) (image : List ℕ) (p : Places) (l : Layout) : Type 0 where
   -- "Parts stand in order of Position" (`in-order-rises` of place and `in-order-keeps`: positions rise, and these are exactly the parts)
   pub stand : Stand (g .aligns) p false (g .address) (inOrder (parts l))
   pub rules : LayoutKeeps n l

@@ -21,7 +21,7 @@ use Rattle.tree.specs.Tree.{Among, Records, Description}
 use Rattle.keeps.specs.Accepted.{allElements}
 use Rattle.keeps.specs.Stands.{Part, needed, addressOf, typeOf, acrossOf, downOf}
 use Rattle.demands.specs.Leads.{Leads}
-use Rattle.demands.specs.Placed.{Placed}
+use Rattle.demands.specs.Placed.{ObjectPlaced}
 
 -- "At most 16 MiB of description, 1 MiB of image, base address plus image length 2^32"; "A table is too short (20) below its full capacity":
 -- the tables take 36,617 cells, the work of a load 42,578
@@ -44,7 +44,7 @@ pub record ObjectKeeps (image : List ℕ) (base : ℕ) (x : List ℕ) (v : View)
   pub mask : (v .slots object i bit-mask-seen ≡ 0 → ⊥) → MaskKeeps (shapeOf (layoutOf x v i .values .kind)) (v .slots object i bit-mask)
   -- its layout places its parts (11), and stored counts are read from the image (12, 13)
   pub places : Places
-  pub placed : Placed (groundOf x v base i) (needOf image base x v i) image places (layoutOf x v i)
+  pub placed : ObjectPlaced (groundOf x v base i) (needOf image base x v i) image places (layoutOf x v i)
   -- "a byte outside the image" (12): every part's elements are inside
   pub bytes : (p : Part) → needed (needOf image base x v i) p ≡ true
       → (base ≤ addressOf places p) × (addressOf places p + shapeOf (typeOf (layoutOf x v i) p) .bytes * (acrossOf places p * downOf places p) ≤ base + length image)

@@ -27,10 +27,10 @@ module _ (x : List ℕ) (v : View) (i : ℕ) where
   walkOf values = valuesWalk v i (layoutNumber x v i)
 
   -- "the object's own and its mask are for the values"
-  abbrev pub bitsOf : Part → ℕ
-  bitsOf points-x = 0
-  bitsOf points-y = 0
-  bitsOf values = maskOf v i
+  abbrev pub partMask : Part → ℕ
+  partMask points-x = 0
+  partMask points-y = 0
+  partMask values = maskOf v i
 
   -- "A stored axis of a CURVE or MAP has its AXIS_DESCR's conversion, limits and READ_ONLY"
   abbrev pub sourceOf : Part → Source
@@ -55,11 +55,11 @@ module _ (x : List ℕ) (v : View) (i : ℕ) where
   readOnly p = measures p || not (eqb (v .slots (sourceOf p .sec) (sourceOf p .number) (sourceOf p .only)) 0)
 
   -- lower and upper limit
-  abbrev pub lowest : Part → Scaled
-  lowest p = decimalSlots v (sourceOf p .sec) (sourceOf p .number) (sourceOf p .lower)
+  abbrev pub partLower : Part → Scaled
+  partLower p = decimalSlots v (sourceOf p .sec) (sourceOf p .number) (sourceOf p .lower)
 
-  abbrev pub highest : Part → Scaled
-  highest p = decimalSlots v (sourceOf p .sec) (sourceOf p .number) (sourceOf p .upper)
+  abbrev pub partUpper : Part → Scaled
+  partUpper p = decimalSlots v (sourceOf p .sec) (sourceOf p .number) (sourceOf p .upper)
 
   -- the address of the element with index j: "x fastest in a map whatever the storage", "ROW_DIR: x runs fastest", "COLUMN_DIR: y runs fastest", "INDEX_DECR
   -- stores the axis's last point first"
@@ -67,14 +67,14 @@ module _ (x : List ℕ) (v : View) (i : ℕ) where
   elementAt l at p j = addressOf at p + shapeOf (typeOf l p) .bytes * position (walkOf p) (acrossOf at p) (acrossOf at p) (downOf at p) j
 
   -- group g is part p of object i, which stands at the places at by the layout l
-  pub record Holds (T : Tables) (g base m : ℕ) (l : Layout) (at : Places) (p : Part) : Type 0 where
+  pub record PartHolds (T : Tables) (g base m : ℕ) (l : Layout) (at : Places) (p : Part) : Type 0 where
     -- "The first part stands at the object's address ..": its address, data type and points, and its bytes inside the image
     pub stands : StandsAt T g base m l at p
     pub element : (j : ℕ) → base + placeOf T g j ≡ elementAt l at p j
     -- "Byte order: the object's, else MOD_COMMON's, else MSB_LAST."
     pub order : first T g ≡ firstOf v i
-    pub masked : mask T g ≡ bitsOf p
+    pub masked : mask T g ≡ partMask p
     pub converted : methodOf T g ≡ methodIn x v (sourceOf p)
     pub locked : forbidden T g ≡ readOnly p
-    pub lower : limit T g lowerCell ≡ lowest p
-    pub upper : limit T g upperCell ≡ highest p
+    pub lower : limit T g lowerCell ≡ partLower p
+    pub upper : limit T g upperCell ≡ partUpper p

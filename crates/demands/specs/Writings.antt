@@ -11,7 +11,7 @@ use Rattle.place.specs.declared.order.Layout.{Layout}
 use Rattle.keeps.specs.Stands.{Part, numberOf, typeOf}
 use Rattle.look.specs.Calls.{lentBy, Reading, reading, Kept}
 use Rattle.demands.specs.Nearest.{Nearest}
-use Rattle.demands.specs.Standing.{bitsOf, conversionFrom, conversionPast, lowest, highest}
+use Rattle.demands.specs.Standing.{partMask, conversionFrom, conversionPast, partLower, partUpper}
 use Rattle.demands.specs.Value.{CoefficientsBy}
 
 -- the text s was written to element j of part p of object i of the description x, by the layout l; what is kept then is `after`, with tables t for a
@@ -21,7 +21,7 @@ pub record Stored (x : List ℕ) (v : View) (i : ℕ) (l : Layout) (p : Part) (j
   pub raw : ℤ
   pub coefficients : Coefficients
   pub by : CoefficientsBy x v (conversionFrom x v i p) (conversionPast x v i p) coefficients
-  pub nearest : Nearest (lowest x v i p) (highest x v i p) coefficients (shapeOf (typeOf l p)) (bitsOf x v i p) s raw
+  pub nearest : Nearest (partLower x v i p) (partUpper x v i p) coefficients (shapeOf (typeOf l p)) (partMask x v i p) s raw
   -- the element then reads as that
   pub answer : Reading
   pub is-read : reading t (after .image) (lentBy n base after) i (numberOf p) j ≡ given answer

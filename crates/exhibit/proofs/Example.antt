@@ -67,28 +67,28 @@ use Rattle.listing.specs.Print.{physical, line, header}
 use Rattle.listing.specs.Listing.{columnsOf, printedLine, printedPart, printedBelow, printed}
 use Rattle.load.specs.Load.{described, Loaded, loaded}
 use Rattle.demands.specs.Rules.{Fits, Keeps}
-use Rattle.exhibit.specs.Example.{text, image, tables, cells, listed}
+use Rattle.exhibit.specs.Example.{exampleText, exampleImage, exampleTables, exampleCells, exampleListing}
 use Rattle.demands.proofs.Accepting.{loaded-given, accepted-exactly}
 
-pub example-described : described image 0x1000 text ≡ given tables
+pub example-described : described exampleImage 0x1000 exampleText ≡ given exampleTables
 unfolding walk over isBlank isAllowed isLetter isDigit startsName inName startsNumber pairAt sameFor samePart lineEnd commentEnd blankAt tokenEnds nameEnd nameAt stringEnd stringAt runEnd numberAt isBegin isEnd markAt tokenAt nextToken inRun digitOf valueOn allDigits leading trailing wholeFrom wholeOf signs minus lowest made pointed decimalOf allSmall formed atMost soundMethod judgedMethod ratFunc linearOf word bytes same kindIn wordRows classOf classAt sections rows needed rowAt needAt allParams paramAt firstParam applied wrong keeping takenWhole takenPairs hasEntry takenEntry takenDecimal takenNumber findFrom takenNew takenName takenText taken rowFrom rowOf oneMore stands plainRow skips opens allMet ends item afterBegin afterEnd onPiece move readFrom start read referenceRows innerRows isFree leads failing leastFrom referred linearAt ratFuncAt coefficients convertsFrom shapes shapeOf maskRule number cell.rawOf rawAt wordFor alignment nextFrom aligned inside insert inOrder parts both apart apartFrom allApart distinct matching comesBefore counted soundLayout place.start startOf countStored countAt pointsOf within placeOne allPlaced placement bytesOf elementsStored allInside weighed judgedObject object.word isType part layoutAt measured layoutOf alignsOf firstOf groundOf axisPtsNeed blockNeed maskFits sharedPoints axisNeed curveNeed mapNeed characteristicNeed needOf judgeObject placesOf elementsOf names named turnsFrom turn judgeEach judgeAll rowsBelow typeOf whatOf methodNumber methodIn forbids build.limitCells meaning valuesWalk maskOf xPart yPart valuesPart knownOf groupsBelow conversionOf methodRow entriesEnd built described
 example-described = refl
 
 -- in tables of the least size and work that is long enough
-pub example-fits : (lent work : List ℕ) → length lent ≡ 36617 → 42578 ≤ length work → Fits text image 0x1000 lent work
+pub example-fits : (lent work : List ℕ) → length lent ≡ 36617 → 42578 ≤ length work → Fits exampleText exampleImage 0x1000 lent work
 example-fits lent work e h = record { text-fits = omega arith; image-fits = omega arith; ends-below = omega arith; tables-fit = omega arith; work-fits = h }
 
 pub example-loaded : (lent work : List ℕ) → length lent ≡ 36617 → 42578 ≤ length work
-    → loaded text image 0x1000 lent work ≡ record { answer = given tt; tables = cells; work = replicate (length work) 0 }
-unfolding cells
+    → loaded exampleText exampleImage 0x1000 lent work ≡ record { answer = given tt; tables = exampleCells; work = replicate (length work) 0 }
+unfolding exampleCells
 example-loaded lent work e h =
-    loaded-given text image 0x1000 lent work (example-fits lent work e h) tables example-described
-    ∙ ap (λ (n : ℕ). record { answer = given tt; tables = encode tables-form.tableSections n tables; work = replicate (length work) 0 }) e
+    loaded-given exampleText exampleImage 0x1000 lent work (example-fits lent work e h) exampleTables example-described
+    ∙ ap (λ (n : ℕ). record { answer = given tt; tables = encode tables-form.tableSections n exampleTables; work = replicate (length work) 0 }) e
 
-pub example-keeps : (lent work : List ℕ) → length lent ≡ 36617 → 42578 ≤ length work → Keeps text image 0x1000
-example-keeps lent work e h = accepted-exactly text image 0x1000 lent work .0 (ap (λ (r : Loaded). r .answer) (example-loaded lent work e h)) .1
+pub example-keeps : (lent work : List ℕ) → length lent ≡ 36617 → 42578 ≤ length work → Keeps exampleText exampleImage 0x1000
+example-keeps lent work e h = accepted-exactly exampleText exampleImage 0x1000 lent work .0 (ap (λ (r : Loaded). r .answer) (example-loaded lent work e h)) .1
 
 -- the list made of it, printed
-pub example-listed : printed text cells (columnsOf (remade cells (kept image (replicate 37 (pos 0)) (replicate 37 0) (replicate 37 (pos 0)) (replicate 37 (pos 0))))) ≡ listed
-unfolding trailingZeros cells encode records.countIn slotIn shapes shapeOf number cell.rawOf rawAt allSmall fraction fractionOf textOf entriesFrom verbalOf tables-form.tableSections sumBelow position placeOf list-lines.part lines list-lines.laidOver list-lines.made textAt meansBy means rawIn lineOf remade figuresOf physical line header printedLine printedPart printedBelow printed
+pub example-listed : printed exampleText exampleCells (columnsOf (remade exampleCells (kept exampleImage (replicate 37 (pos 0)) (replicate 37 0) (replicate 37 (pos 0)) (replicate 37 (pos 0))))) ≡ exampleListing
+unfolding trailingZeros exampleCells encode records.countIn slotIn shapes shapeOf number cell.rawOf rawAt allSmall fraction fractionOf textOf entriesFrom verbalOf tables-form.tableSections sumBelow position placeOf list-lines.part lines list-lines.laidOver list-lines.made textAt meansBy means rawIn lineOf remade figuresOf physical line header printedLine printedPart printedBelow printed
 example-listed = refl

@@ -8,8 +8,8 @@ use Rattle.text.specs.Bytes.{spelt}
 use Rattle.records.specs.Cells.{encode}
 use Rattle.tables.specs.Form.{tableSections, groupWidth}
 
-abbrev pub text : List ℕ
-text =
+abbrev pub exampleText : List ℕ
+exampleText =
     spelt "/begin PROJECT P \"\"\n"
     ++ spelt "/begin MODULE M \"\"\n"
     ++ spelt "/begin MOD_COMMON \"\" BYTE_ORDER MSB_FIRST ALIGNMENT_BYTE 4 ALIGNMENT_WORD 2 ALIGNMENT_LONG 8 /end MOD_COMMON\n"
@@ -41,8 +41,8 @@ text =
     ++ spelt "/end PROJECT"
 
 -- 106 bytes from 0x1000 on
-abbrev pub image : List ℕ
-image =
+abbrev pub exampleImage : List ℕ
+exampleImage =
     -- the curve from 0x1001 on: three points, which are 10, 20 and 30, and its values 5, 6 and 7 ("P10")
     0 ∷ 3 ∷ 0 ∷ 10 ∷ 0 ∷ 20 ∷ 0 ∷ 30 ∷ 5 ∷ 6 ∷ 7 ∷ 0
     -- the masked value at 0x100C: "mask 0x00F0, word 0x12A7: raw 10" ("P7")
@@ -61,8 +61,8 @@ image =
     ∷ 0 ∷ 2 ∷ 0 ∷ 0 ∷ 3 ∷ 0 ∷ 0 ∷ 0 ∷ 0 ∷ 5 ∷ 0 ∷ 0 ∷ 0 ∷ 1 ∷ 0 ∷ 0 ∷ 9 ∷ 10 ∷ 11 ∷ 0 ∷ 0xFF ∷ 0 ∷ 1 ∷ 2 ∷ 3 ∷ 4 ∷ []
 
 -- the sections of the tables: head, objects, groups, methods, verbal tables, entries (tables, specs/Form.antt)
-abbrev pub tables : List (List (List ℕ))
-tables =
+abbrev pub exampleTables : List (List (List ℕ))
+exampleTables =
     ((0 ∷ 0 ∷ 37 ∷ []) ∷ [])
     ∷ (
     (1247 ∷ 1253 ∷ 15 ∷ [])
@@ -106,12 +106,12 @@ tables =
     ∷ []
 
 -- the same in 36,617 cells
-unfoldable pub cells : List ℕ
-cells = encode tableSections 36617 tables
+unfoldable pub exampleCells : List ℕ
+exampleCells = encode tableSections 36617 exampleTables
 
 -- the whole listing
-abbrev pub listed : List ℕ
-listed =
+abbrev pub exampleListing : List ℕ
+exampleListing =
     spelt "name\tpart\tindex\traw\tphysical\n"
     ++ spelt "Masked\tv\t0\t10\t-350/10\n"
     ++ spelt "Curve\tx\t0\t10\t10/1\n"

@@ -1,4 +1,5 @@
 pub mod Slots
+pub mod Numbers
 pub mod Moves
 pub mod Readings
 pub mod Tests

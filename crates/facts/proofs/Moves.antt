@@ -21,7 +21,7 @@ use Rattle.number.specs.Whole.{wholeOf}
 use Rattle.number.specs.Form.{hasForm}
 use Rattle.records.specs.Records.{mostOf}
 use Rattle.number.specs.Decimal.{Scaled, Form, decimalOf}
-use Rattle.number.proofs.Laws.{decimal-form}
+use Rattle.number.proofs.Laws.{decimal-form, run-refused, decimal-refused, whole-refused}
 use Rattle.convert.specs.Limit.{atMost}
 use Rattle.words.specs.Kind as word
 use Rattle.words.specs.Class.{classAt}
@@ -36,6 +36,7 @@ use Rattle.grammar.specs.Keyword.{rowOf, isRow, mayStand, isOften, counting, st
 use Rattle.grammar.specs.Read.{onPiece, onToken, move}
 use Rattle.grammar.specs.declared.state.State.{State}
 use Rattle.grammar.specs.declared.state.Act.{Act}
+use Rattle.facts.proofs.Numbers.{Number, Numbered, token-numbered, skip-numbered}
 
 -- what is asked of a move that goes on, of a refusal, and of the text's end
 abbrev pub Leads : Type 0 → (ℕ → State → Act → Type 0) → (ℕ → ℕ → Type 0) → Move → Type 0
@@ -146,17 +147,17 @@ module _ (x : List ℕ) (v : View) (s : State) (P : State → Act → Type 0) (z
     R i t w = (e ≤ i) × (i ≤ length x) × Calm t × (i ≤ z → P t w)
 
     abbrev F : ℕ → ℕ → Type 0
-    F m p = (p ≡ a) ⊎ (e ≤ p)
+    F m p = (Number m × (p ≤ length x)) × ((p ≡ a) ⊎ (e ≤ p))
 
     abbrev G : Move → Type 0
     G = Leads (s .param ≡ 0) R F
 
-    here : (m : ℕ) → F m a
-    here m = inl refl
+    here : (m : ℕ) → Number m → F m a
+    here m n = ((n, omega arith), inl refl)
 
-    wrong-goes : (m k : ℕ) → G (wrong m x k a e)
+    wrong-goes : (m k : ℕ) → Number m → G (wrong m x k a e)
     unfolding wrong
-    wrong-goes m k = by-test G (eqb k aNumber && not (hasForm x a e)) (λ t. here 2) (λ t. here m)
+    wrong-goes m k n = by-test G (eqb k aNumber && not (hasForm x a e)) (λ t. here 2 (omega arith)) (λ t. here m n)
 
     -- ---- keywords
     module _ (o : s .param ≡ 0) where
@@ -166,77 +167,77 @@ module _ (x : List ℕ) (v : View) (s : State) (P : State → Act → Type 0) (z
       stands-goes : (i inner : ℕ) → G (stands v i inner a e)
       unfolding stands
       stands-goes i inner =
-          by-test G (not (mayStand v i)) (λ t. inl refl) λ t.
-          by-test G (isOften v i) (λ u. inl refl) λ u. (omega arith, l, (λ q. absurd (q refl)), λ r. c .standing o (state items inner (firstParam i) 0) i)
+          by-test G (not (mayStand v i)) (λ t. (omega arith, inl refl)) λ t.
+          by-test G (isOften v i) (λ u. (omega arith, inl refl)) λ u. (omega arith, l, (λ q. absurd (q refl)), λ r. c .standing o (state items inner (firstParam i) 0) i)
 
       plain-goes : (i : ℕ) → G (plainRow v s i a e)
       unfolding plainRow
       plain-goes i =
-          by-test G (not (isRow i)) (λ t. inl refl) λ t.
-          by-test G (eqb (rowAt i .opens) outside) (λ u. inl refl) λ u. stands-goes i (s .block)
+          by-test G (not (isRow i)) (λ t. (omega arith, inl refl)) λ t.
+          by-test G (eqb (rowAt i .opens) outside) (λ u. (omega arith, inl refl)) λ u. stands-goes i (s .block)
 
       bare-goes : (w : word.Kind) → G (bareWord v s a e w)
       bare-goes (word.takenPlain k) = plain-goes (rowOf (s .block) k)
       bare-goes (word.skippedPlain k) = plain-goes (rowOf (homeOf (s .block)) k)
-      bare-goes (word.takenBlock k) = inl refl
-      bare-goes (word.takenChoice k) = inl refl
-      bare-goes (word.skippedBlock k) = inl refl
-      bare-goes word.listedOnly = inl refl
-      bare-goes word.unlisted = inl refl
+      bare-goes (word.takenBlock k) = (omega arith, inl refl)
+      bare-goes (word.takenChoice k) = (omega arith, inl refl)
+      bare-goes (word.skippedBlock k) = (omega arith, inl refl)
+      bare-goes word.listedOnly = (omega arith, inl refl)
+      bare-goes word.unlisted = (omega arith, inl refl)
 
-      of-skip : (r : text.Answer ℕ) → Reaches (length x) e r → G (ofSkip s r)
-      of-skip (given k) q = (q .0, q .1, (λ t. refl), λ r. c .passing o (state items (s .block) 0 0) refl)
-      of-skip (text.refused n p) q = inr (q .0)
+      of-skip : (r : text.Answer ℕ) → Reaches (length x) e r → Numbered r → G (ofSkip s r)
+      of-skip (given k) q n = (q .0, q .1, (λ t. refl), λ r. c .passing o (state items (s .block) 0 0) refl)
+      of-skip (text.refused m p) q n = ((n, q .1), inr (q .0))
 
       skips-goes : G (skips x s a e)
       unfolding skips
-      skips-goes = by-test G (eqb (s .block) FILE) (λ t. inl refl) λ t. of-skip (skipBlock (levelsIn (s .block)) x a e) (skip-block-within (levelsIn (s .block)) x a e l)
+      skips-goes = by-test G (eqb (s .block) FILE) (λ t. (omega arith, inl refl)) λ t. of-skip (skipBlock (levelsIn (s .block)) x a e) (skip-block-within (levelsIn (s .block)) x a e l) (skip-numbered x (levelsIn (s .block)) a e)
 
       opens-goes : (k : ℕ) → G (opens v s k a e)
       unfolding opens
-      opens-goes k = by-test G (not (isRow (rowOf (s .block) k))) (λ t. inl refl) λ t. stands-goes (rowOf (s .block) k) k
+      opens-goes k = by-test G (not (isRow (rowOf (s .block) k))) (λ t. (omega arith, inl refl)) λ t. stands-goes (rowOf (s .block) k) k
 
       begun-goes : (w : word.Kind) → G (begunWord x v s a e w)
       begun-goes (word.takenBlock k) = opens-goes k
       begun-goes (word.skippedBlock k) = skips-goes
-      begun-goes (word.takenPlain k) = inl refl
-      begun-goes (word.takenChoice k) = inl refl
-      begun-goes (word.skippedPlain k) = inl refl
-      begun-goes word.listedOnly = inl refl
-      begun-goes word.unlisted = inl refl
+      begun-goes (word.takenPlain k) = (omega arith, inl refl)
+      begun-goes (word.takenChoice k) = (omega arith, inl refl)
+      begun-goes (word.skippedPlain k) = (omega arith, inl refl)
+      begun-goes word.listedOnly = (omega arith, inl refl)
+      begun-goes word.unlisted = (omega arith, inl refl)
 
       ends-goes : G (ends v s a e)
       unfolding ends
       ends-goes =
-          by-test G (eqb (s .block) FILE) (λ t. inl refl) λ t.
-          by-test G (allMet (length needed) v (s .block) 0) (λ u. rest ended (s .block)) (λ u. inl refl)
+          by-test G (eqb (s .block) FILE) (λ t. (omega arith, inl refl)) λ t.
+          by-test G (allMet (length needed) v (s .block) 0) (λ u. rest ended (s .block)) (λ u. (omega arith, inl refl))
 
       closes-goes : G (closes s a e)
       closes-goes = by-test G (eqb (s .block) PROJECT) (λ t. rest finished FILE) (λ t. rest items (holderOf (s .block)))
 
       ended-goes : (w : word.Kind) → G (endedWord s a e w)
-      ended-goes (word.takenBlock k) = by-test G (eqb k (s .block)) (λ t. closes-goes) (λ t. inl refl)
-      ended-goes (word.takenPlain k) = inl refl
-      ended-goes (word.takenChoice k) = inl refl
-      ended-goes (word.skippedBlock k) = inl refl
-      ended-goes (word.skippedPlain k) = inl refl
-      ended-goes word.listedOnly = inl refl
-      ended-goes word.unlisted = inl refl
+      ended-goes (word.takenBlock k) = by-test G (eqb k (s .block)) (λ t. closes-goes) (λ t. (omega arith, inl refl))
+      ended-goes (word.takenPlain k) = (omega arith, inl refl)
+      ended-goes (word.takenChoice k) = (omega arith, inl refl)
+      ended-goes (word.skippedBlock k) = (omega arith, inl refl)
+      ended-goes (word.skippedPlain k) = (omega arith, inl refl)
+      ended-goes word.listedOnly = (omega arith, inl refl)
+      ended-goes word.unlisted = (omega arith, inl refl)
 
       item-goes : (k : ℕ) → G (item x v s k a e)
       unfolding item
       item-goes k =
           by-test G (eqb k aName) (λ t. bare-goes (classAt x a e)) λ t.
           by-test G (eqb k aBegin) (λ u. rest begun (s .block)) λ u.
-          by-test G (eqb k anEnd) (λ w. ends-goes) (λ w. wrong-goes 5 k)
+          by-test G (eqb k anEnd) (λ w. ends-goes) (λ w. wrong-goes 5 k (omega arith))
 
       begin-goes : (k : ℕ) → G (afterBegin x v s k a e)
       unfolding afterBegin
-      begin-goes k = by-test G (eqb k aName) (λ t. begun-goes (classAt x a e)) (λ t. wrong-goes 5 k)
+      begin-goes k = by-test G (eqb k aName) (λ t. begun-goes (classAt x a e)) (λ t. wrong-goes 5 k (omega arith))
 
       end-goes : (k : ℕ) → G (afterEnd x s k a e)
       unfolding afterEnd
-      end-goes k = by-test G (eqb k aName) (λ t. ended-goes (classAt x a e)) (λ t. wrong-goes 3 k)
+      end-goes k = by-test G (eqb k aName) (λ t. ended-goes (classAt x a e)) (λ t. wrong-goes 3 k (omega arith))
 
     -- ---- parameters
 
@@ -269,9 +270,9 @@ module _ (x : List ℕ) (v : View) (s : State) (P : State → Act → Type 0) (z
     whole-goes : (kindOf s ≡ 3) ⊎ (kindOf s ≡ 7) ⊎ (kindOf s ≡ 8) → (n : ℕ) → G (takenWhole s a e n)
     unfolding takenWhole
     whole-goes k n =
-        by-test G (ltb n (lowOf s)) (λ t. inl refl) λ t.
-        by-test G (eqb (kindOf s) 7 && ltb 256 n) (λ u. inl refl) λ u.
-        by-test G (eqb (kindOf s) 8 && not (eqb n 1 || eqb n 2 || eqb n 4 || eqb n 8)) (λ w. inl refl) λ w.
+        by-test G (ltb n (lowOf s)) (λ t. (omega arith, inl refl)) λ t.
+        by-test G (eqb (kindOf s) 7 && ltb 256 n) (λ u. (omega arith, inl refl)) λ u.
+        by-test G (eqb (kindOf s) 8 && not (eqb n 1 || eqb n 2 || eqb n 4 || eqb n 8)) (λ w. (omega arith, inl refl)) λ w.
         one (after s) (busy (s .block) (nextOf s) (s .left)) (λ q. refl) (among k) n where
           among : (kindOf s ≡ 3) ⊎ (kindOf s ≡ 7) ⊎ (kindOf s ≡ 8) → (kindOf s ≡ 3) ⊎ (kindOf s ≡ 5) ⊎ (kindOf s ≡ 7) ⊎ (kindOf s ≡ 8) ⊎ (kindOf s ≡ 11)
           among (inl p) = inl p
@@ -288,9 +289,9 @@ module _ (x : List ℕ) (v : View) (s : State) (P : State → Act → Type 0) (z
     entry-goes : kindOf s ≡ 12 → (d : Scaled) → G (takenEntry v s a e d)
     unfolding takenEntry
     entry-goes k d =
-        by-test G (not (eqb (d .tens) 0)) (λ t. inl refl) λ t.
-        by-test G (twice v (signOf d) (d .whole)) (λ u. inl refl) λ u.
-        by-test G (leb (mostOf sections entry) (v .counts entry)) (λ w. inl refl) λ w.
+        by-test G (not (eqb (d .tens) 0)) (λ t. (omega arith, inl refl)) λ t.
+        by-test G (twice v (signOf d) (d .whole)) (λ u. (omega arith, inl refl)) λ u.
+        by-test G (leb (mostOf sections entry) (v .counts entry)) (λ w. (omega arith, inl refl)) λ w.
         (omega arith, l, busy (s .block) (nextOf s) (s .left), λ r. c .pairing k (after s) refl (signOf d) (d .whole))
 
     -- three slots
@@ -299,8 +300,8 @@ module _ (x : List ℕ) (v : View) (s : State) (P : State → Act → Type 0) (z
     unfolding takenDecimal
     decimal-goes k₁ k₂ k₃ k₄ d f =
         by-test G (eqb (kindOf s) 12) (λ t. entry-goes (eqb-true (kindOf s) 12 t) d) λ t.
-        by-test G (eqb (kindOf s) 9 && not (eqb (d .whole) 0)) (λ u. inl refl) λ u.
-        by-test G (eqb (kindOf s) 10 && not (atMost (decimalIn v (secOf s) (slotOf s - 3)) d)) (λ w. inl refl) λ w.
+        by-test G (eqb (kindOf s) 9 && not (eqb (d .whole) 0)) (λ u. (omega arith, inl refl)) λ u.
+        by-test G (eqb (kindOf s) 10 && not (atMost (decimalIn v (secOf s) (slotOf s - 3)) d)) (λ w. (omega arith, inl refl)) λ w.
         (omega arith, l, busy (s .block) (nextOf s) (s .left), λ r. rw (wide-three (kindOf s) k₁ k₂ k₃ k₄ t) at (c .keeps (after s) (λ q. refl) (signOf d) (d .whole) (d .tens) (fits t w))) where
           under : (b : Bool) → (true && not b) ≡ false → b ≡ true
           under true q = refl
@@ -313,18 +314,18 @@ module _ (x : List ℕ) (v : View) (s : State) (P : State → Act → Type 0) (z
             upper = λ u. rw (three-back d f) (under (atMost (decimalIn v (secOf s) (slotOf s - 3)) d) (rw (eq-eqb (kindOf s) 10 u) at w));
           }
 
-    of-number : {A : Type 0} (r : number.Answer A) (g : A → Move) → ((n : A) → r ≡ number.given n → G (g n)) → G (ofNumber a r g)
-    of-number (number.given n) g q = q n refl
-    of-number (number.refused k) g q = here k
+    of-number : {A : Type 0} (r : number.Answer A) (g : A → Move) → ((k : ℕ) → number.refused k ≡ r → k ≡ 2) → ((n : A) → r ≡ number.given n → G (g n)) → G (ofNumber a r g)
+    of-number (number.given n) g t q = q n refl
+    of-number (number.refused k) g t q = let o = t k refl in here k (omega arith)
 
     number-goes : wantsText s ≡ false → wantsName s ≡ false → G (takenNumber x v s a e)
     unfolding takenNumber
     number-goes k₁ k₂ =
         by-test G (eqb (kindOf s) 11)
-        (λ t. of-number (inRun (wholeOf (highOf s)) x a e) (takenPairs s e) (λ n q. pairs-goes (eqb-true (kindOf s) 11 t) n)) λ t.
+        (λ t. of-number (inRun (wholeOf (highOf s)) x a e) (takenPairs s e) (λ k. run-refused k (wholeOf (highOf s)) (whole-refused k (highOf s)) x a e) (λ n q. pairs-goes (eqb-true (kindOf s) 11 t) n)) λ t.
         by-test G (eqb (kindOf s) 3 || eqb (kindOf s) 7 || eqb (kindOf s) 8)
-        (λ u. of-number (inRun (wholeOf (highOf s)) x a e) (takenWhole s a e) (λ n q. whole-goes (which u) n))
-        (λ u. of-number (inRun decimalOf x a e) (takenDecimal v s a e) (λ d q. decimal-goes k₁ k₂ t u d (run-form x a e d q))) where
+        (λ u. of-number (inRun (wholeOf (highOf s)) x a e) (takenWhole s a e) (λ k. run-refused k (wholeOf (highOf s)) (whole-refused k (highOf s)) x a e) (λ n q. whole-goes (which u) n))
+        (λ u. of-number (inRun decimalOf x a e) (takenDecimal v s a e) (λ k. run-refused k decimalOf (decimal-refused k) x a e) (λ d q. decimal-goes k₁ k₂ t u d (run-form x a e d q))) where
           inner : (eqb (kindOf s) 3 ≡ true) ⊎ (eqb (kindOf s) 7 ≡ true) → (kindOf s ≡ 3) ⊎ (kindOf s ≡ 7) ⊎ (kindOf s ≡ 8)
           inner (inl p) = inl (eqb-true (kindOf s) 3 p)
           inner (inr p) = inr (inl (eqb-true (kindOf s) 7 p))
@@ -339,19 +340,19 @@ module _ (x : List ℕ) (v : View) (s : State) (P : State → Act → Type 0) (z
     new-goes : kindOf s ≡ 6 → G (takenNew x v s a e)
     unfolding takenNew
     new-goes k =
-        by-test G (not (eqb (find x v (secOf s) a e) 0)) (λ t. inl refl) λ t.
-        by-test G (leb (mostOf sections (secOf s)) (v .counts (secOf s))) (λ u. inl refl) λ u.
+        by-test G (not (eqb (find x v (secOf s) a e) 0)) (λ t. (omega arith, inl refl)) λ t.
+        by-test G (leb (mostOf sections (secOf s)) (v .counts (secOf s))) (λ u. (omega arith, inl refl)) λ u.
         (omega arith, l, busy (s .block) (nextOf s) (s .left), λ b. c .naming k (after s) a e (omega arith) b)
 
     choice-goes : kindOf s ≡ 5 → (w : word.Kind) → G (ofChoice s a e w)
     choice-goes k (word.takenChoice n) =
-        by-test G (leb (lowOf s) n && leb n (highOf s)) (λ t. one (after s) (busy (s .block) (nextOf s) (s .left)) (λ q. refl) (inr (inl k)) n) (λ t. inl refl)
-    choice-goes k (word.takenBlock n) = inl refl
-    choice-goes k (word.takenPlain n) = inl refl
-    choice-goes k (word.skippedBlock n) = inl refl
-    choice-goes k (word.skippedPlain n) = inl refl
-    choice-goes k word.listedOnly = inl refl
-    choice-goes k word.unlisted = inl refl
+        by-test G (leb (lowOf s) n && leb n (highOf s)) (λ t. one (after s) (busy (s .block) (nextOf s) (s .left)) (λ q. refl) (inr (inl k)) n) (λ t. (omega arith, inl refl))
+    choice-goes k (word.takenBlock n) = (omega arith, inl refl)
+    choice-goes k (word.takenPlain n) = (omega arith, inl refl)
+    choice-goes k (word.skippedBlock n) = (omega arith, inl refl)
+    choice-goes k (word.skippedPlain n) = (omega arith, inl refl)
+    choice-goes k word.listedOnly = (omega arith, inl refl)
+    choice-goes k word.unlisted = (omega arith, inl refl)
 
     name-goes : wantsName s ≡ true → G (takenName x v s a e)
     unfolding takenName
@@ -379,36 +380,36 @@ module _ (x : List ℕ) (v : View) (s : State) (P : State → Act → Type 0) (z
     taken-goes : (k : ℕ) → G (taken x v s k a e)
     unfolding taken
     taken-goes k =
-        by-test G (wantsText s) (λ t. by-test G (eqb k aString) (λ u. text-goes t) (λ u. wrong-goes 5 k)) λ t.
-        by-test G (wantsName s) (λ w. by-test G (eqb k aName) (λ u. name-goes w) (λ u. wrong-goes 5 k)) λ w.
-        by-test G (eqb k aNumber) (λ u. number-goes t w) (λ u. inl refl)
+        by-test G (wantsText s) (λ t. by-test G (eqb k aString) (λ u. text-goes t) (λ u. wrong-goes 5 k (omega arith))) λ t.
+        by-test G (wantsName s) (λ w. by-test G (eqb k aName) (λ u. name-goes w) (λ u. wrong-goes 5 k (omega arith))) λ w.
+        by-test G (eqb k aNumber) (λ u. number-goes t w) (λ u. (omega arith, inl refl))
 
     -- ---- any piece
 
-    pub piece-leads : Calm s → (k : ℕ) → Leads (s .param ≡ 0) (λ i t w. (e ≤ i) × (i ≤ length x) × Calm t × (i ≤ z → P t w)) (λ m p. (p ≡ a) ⊎ (e ≤ p)) (onPiece x v s k a e)
+    pub piece-leads : Calm s → (k : ℕ) → Leads (s .param ≡ 0) (λ i t w. (e ≤ i) × (i ≤ length x) × Calm t × (i ≤ z → P t w)) (λ m p. (Number m × (p ≤ length x)) × ((p ≡ a) ⊎ (e ≤ p))) (onPiece x v s k a e)
     unfolding onPiece
     piece-leads m k =
-        by-test G (eqb (s .mode) finished) (λ t. wrong-goes 3 k) λ t.
+        by-test G (eqb (s .mode) finished) (λ t. wrong-goes 3 k (omega arith)) λ t.
         by-test G (eqb (s .mode) begun) (λ u. begin-goes (m (λ q. let r = eqb-true (s .mode) begun u in omega arith)) k) λ u.
         by-test G (eqb (s .mode) ended) (λ w. end-goes (m (λ q. let r = eqb-true (s .mode) ended w in omega arith)) k) λ w.
         by-test G (eqb (s .param) 0) (λ p. item-goes (eqb-true (s .param) 0 p) k) (λ p. taken-goes k)
 
   module _ (k : ℕ) (h : k ≤ length x) where
     abbrev T : Move → Type 0
-    T = Leads (s .param ≡ 0) (λ e t a. (k < e) × (e ≤ length x) × Calm t × (e ≤ z → P t a)) (λ n p. k ≤ p)
+    T = Leads (s .param ≡ 0) (λ e t a. (k < e) × (e ≤ length x) × Calm t × (e ≤ z → P t a)) (λ n p. (Number n × (p ≤ length x)) × (k ≤ p))
 
-    of-piece : (a e : ℕ) → k ≤ a → a < e → (m : Move) → Leads (s .param ≡ 0) (λ i t w. (e ≤ i) × (i ≤ length x) × Calm t × (i ≤ z → P t w)) (λ n p. (p ≡ a) ⊎ (e ≤ p)) m → T m
-    of-piece a e l q = leads-to (s .param ≡ 0) (λ i t w r. (omega (arith, r .0), r .1, r .2, r .3)) (λ n p r. ⊎-elim (λ u. omega arith) (λ u. omega arith) r)
+    of-piece : (a e : ℕ) → k ≤ a → a < e → (m : Move) → Leads (s .param ≡ 0) (λ i t w. (e ≤ i) × (i ≤ length x) × Calm t × (i ≤ z → P t w)) (λ n p. (Number n × (p ≤ length x)) × ((p ≡ a) ⊎ (e ≤ p))) m → T m
+    of-piece a e l q = leads-to (s .param ≡ 0) (λ i t w r. (omega (arith, r .0), r .1, r .2, r .3)) (λ n p r. (r .0, ⊎-elim (λ u. omega arith) (λ u. omega arith) (r .1)))
 
-    token-leads : Calm s → (r : text.Answer Piece) → Pieces (length x) k r → T (onToken x v s r)
-    token-leads m (given (piece kind a e)) q = of-piece a e (q .0) (q .1) (onPiece x v s (kindNumber kind) a e) (piece-leads a e (q .1) (q .2) m (kindNumber kind))
-    token-leads m (given (finish p)) q = by-test T (eqb (s .mode) finished) (λ t. m (λ u. let w = eqb-true (s .mode) finished t in omega arith)) (λ t. omega arith)
-    token-leads m (text.refused n p) q = q .0
+    token-leads : Calm s → (r : text.Answer Piece) → Pieces (length x) k r → Numbered r → T (onToken x v s r)
+    token-leads m (given (piece kind a e)) q n = of-piece a e (q .0) (q .1) (onPiece x v s (kindNumber kind) a e) (piece-leads a e (q .1) (q .2) m (kindNumber kind))
+    token-leads m (given (finish p)) q n = by-test T (eqb (s .mode) finished) (λ t. m (λ u. let w = eqb-true (s .mode) finished t in omega arith)) (λ t. omega arith)
+    token-leads m (text.refused i p) q n = ((n, q .1), q .0)
 
-    -- every move goes ahead inside the text or is refused at a place ahead, is one of the cases, and at the text's end no parameter is to come
-    pub move-leads : Calm s → Leads (s .param ≡ 0) (λ e t a. (k < e) × (e ≤ length x) × Calm t × (e ≤ z → P t a)) (λ n p. k ≤ p) (move x v s k)
+    -- every move goes ahead inside the text or is refused, with a number of the text, at a place ahead and inside it or at its end, is one of the cases, and at the text's end no parameter is to come
+    pub move-leads : Calm s → Leads (s .param ≡ 0) (λ e t a. (k < e) × (e ≤ length x) × Calm t × (e ≤ z → P t a)) (λ n p. (Number n × (p ≤ length x)) × (k ≤ p)) (move x v s k)
     unfolding move
-    move-leads m = token-leads m (nextToken x k) (token-within x k h)
+    move-leads m = token-leads m (nextToken x k) (token-within x k h) (token-numbered x k)
 
 -- the cases of the whole text
 module _ (x : List ℕ) (v : View) (s : State) (P : State → Act → Type 0) (c : Cases (length x) v s P) where

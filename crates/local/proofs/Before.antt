@@ -21,6 +21,7 @@ use Rattle.grammar.specs.declared.state.Act.{Act}
 use Rattle.facts.specs.Facts.{isNamed}
 use Rattle.facts.proofs.Slots.{start-slot}
 use Rattle.facts.proofs.Tests.{every, ofParam, each-param, implied}
+use Rattle.facts.proofs.Numbers.{Number}
 use Rattle.facts.proofs.Moves.{Leads, Calm, no-cases, move-leads}
 use Rattle.facts.proofs.Texts.{Told, text-cases}
 use Rattle.facts.proofs.Keeps.{named-text}
@@ -54,13 +55,13 @@ module _ (x : List ℕ) (d : List (List (List ℕ))) (s : State) (k : ℕ) (h : 
   Ahead = (k < e) × (e ≤ length x) × Calm t
 
   pub went-ahead : Ahead
-  went-ahead = of (subst (Leads (s .param ≡ 0) (λ i u w. (k < i) × (i ≤ length x) × Calm u × (i ≤ 0 → Unit {0})) (λ n p. k ≤ p)) q
+  went-ahead = of (subst (Leads (s .param ≡ 0) (λ i u w. (k < i) × (i ≤ length x) × Calm u × (i ≤ 0 → Unit {0})) (λ n p. (Number n × (p ≤ length x)) × (k ≤ p))) q
       (move-leads x (view d) s (λ u w. Unit {0}) 0 (no-cases 0 (view d) s) k h calm)) where
         of : (k < e) × (e ≤ length x) × Calm t × (e ≤ 0 → Unit {0}) → Ahead
         of r = (r .0, r .1, r .2)
 
   pub before-went : Good sections d → Before k d → Before e (applied a d)
-  before-went g b j i n = of (subst (Leads (s .param ≡ 0) (λ i u w. (k < i) × (i ≤ length x) × Calm u × (i ≤ e → Keeps w)) (λ n p. k ≤ p)) q
+  before-went g b j i n = of (subst (Leads (s .param ≡ 0) (λ i u w. (k < i) × (i ≤ length x) × Calm u × (i ≤ e → Keeps w)) (λ n p. (Number n × (p ≤ length x)) × (k ≤ p))) q
       (move-leads x (view d) s (λ u w. Keeps w) e (text-cases j 0 (named-text j n) e s d g (λ i. told-later k e _ _ (omega (arith, went-ahead .0)) (b j i n))) k h calm)) i where
         Keeps : Act → Type 0
         Keeps w = (i : ℕ) → Told e (slot (applied w d) j i own-name) (slot (applied w d) j i own-name-past)

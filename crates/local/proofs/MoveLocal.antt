@@ -29,6 +29,7 @@ use Rattle.grammar.specs.Keyword.{levelsIn, ofSkip, skips, begunWord, item, aft
 use Rattle.grammar.specs.Read.{onPiece, onToken, move}
 use Rattle.grammar.specs.declared.state.State.{State}
 use Rattle.facts.specs.Facts.{isNamed}
+use Rattle.facts.proofs.Numbers.{Number}
 use Rattle.facts.proofs.Moves.{Leads, Calm, no-cases, piece-leads}
 use Rattle.local.specs.Token.{TokenTo}
 use Rattle.local.proofs.Tokens.{EarlyAt, PieceTo, to-inside, to-same, to-end, token-to}
@@ -152,11 +153,11 @@ module _ (m : ℕ) (x y : List ℕ) (same : take m x ≡ take m y) where
         (near-if (eqb (s .param) 0) (λ w. sym (item-same a e h l v s b k)) (λ w. sym (taken-same a e h l v s b k)))))
 
     -- the piece of an early move ends early
-    piece-early : (a e : ℕ) → TokenTo x a e → (w : Move) → Leads (s .param ≡ 0) (λ i t z. (e ≤ i) × (i ≤ length x) × Calm t × (i ≤ 0 → Unit {0})) (λ n p. (p ≡ a) ⊎ (e ≤ p)) w → EarlyMove w → e + 2 ≤ m
+    piece-early : (a e : ℕ) → TokenTo x a e → (w : Move) → Leads (s .param ≡ 0) (λ i t z. (e ≤ i) × (i ≤ length x) × Calm t × (i ≤ 0 → Unit {0})) (λ n p. (Number n × (p ≤ length x)) × ((p ≡ a) ⊎ (e ≤ p))) w → EarlyMove w → e + 2 ≤ m
     piece-early a e t (went i u z) q w = omega (arith, q .0)
     piece-early a e t over q w = absurd w
-    piece-early a e t (refused n p) (inl q) w = let z : w .end ≡ e = to-same (subst (λ i. TokenTo x i (w .end)) q (w .to)) t in omega (arith, w .early)
-    piece-early a e t (refused n p) (inr q) w = omega (arith, to-inside (w .to) .0, w .early)
+    piece-early a e t (refused n p) (b, inl q) w = let z : w .end ≡ e = to-same (subst (λ i. TokenTo x i (w .end)) q (w .to)) t in omega (arith, w .early)
+    piece-early a e t (refused n p) (b, inr q) w = omega (arith, to-inside (w .to) .0, w .early)
 
     token-near : Calm s → (k : ℕ) (r : Answer Piece) → nextToken x k ≡ r → Pieces (length x) k r → PieceTo x r → EarlyMove (onToken x v s r) → onToken y v s (nextToken y k) ≡ onToken x v s r
     token-near c k (given (piece kind a e)) q i t w =

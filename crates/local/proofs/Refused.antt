@@ -16,6 +16,7 @@ use Rattle.grammar.specs.Move.{view, state, items, applied, Move, went, over}
 use Rattle.grammar.specs.Read.{move, following, readFrom, start, read}
 use Rattle.grammar.specs.declared.state.State.{State}
 use Rattle.grammar.proofs.Cells.{good-applied}
+use Rattle.facts.proofs.Numbers.{Number}
 use Rattle.facts.proofs.Moves.{Leads, Calm, no-cases, move-leads}
 use Rattle.local.specs.Token.{TokenTo}
 use Rattle.local.specs.Same.{seenTo, SameTo}
@@ -39,10 +40,10 @@ later k e (refused n p) h q = omega arith
 
 module _ (x : List ℕ) where
   follows-ahead : (f k : ℕ) (d : Records) → ((e : ℕ) (s : State) (u : Records) → e ≤ length x → Calm s → Ahead e (readFrom f x e s u))
-      → (w : Move) → (E : Type 0) → Leads E (λ e t a. (k < e) × (e ≤ length x) × Calm t × (e ≤ 0 → Unit {0})) (λ n p. k ≤ p) w → Ahead k (following w d (readFrom f x))
+      → (w : Move) → (E : Type 0) → Leads E (λ e t a. (k < e) × (e ≤ length x) × Calm t × (e ≤ 0 → Unit {0})) (λ n p. (Number n × (p ≤ length x)) × (k ≤ p)) w → Ahead k (following w d (readFrom f x))
   follows-ahead f k d ih (went e t a) E q = later k e (readFrom f x e t (applied a d)) (q .0) (ih e t (applied a d) (q .1) (q .2))
   follows-ahead f k d ih over E q = tt
-  follows-ahead f k d ih (grammar.refused n p) E q = q
+  follows-ahead f k d ih (grammar.refused n p) E q = q .1
 
   from-ahead : (f k : ℕ) (s : State) (d : Records) → k ≤ length x → Calm s → Ahead k (readFrom f x k s d)
   unfolding readFrom

@@ -1,4 +1,3 @@
 -- Which numbers and places a load's refusal can have.
-pub mod Numbers
 pub mod Moves
 pub mod Refusing

@@ -48,7 +48,7 @@ use Rattle.facts.proofs.Texts.{text-inside, method-name, object-name}
 use Rattle.tables.specs.Sizes.{sizesFit}
 use Rattle.load.specs.Load.{described, Loaded, left, loaded}
 use Rattle.refusals.specs.Refusals.{Refusal, lent, described as in-text}
-use Rattle.refusals.proofs.Numbers.{Number}
+use Rattle.facts.proofs.Numbers.{Number}
 use Rattle.refusals.proofs.Moves.{Answered, read-told}
 
 -- ---- the numbers of placement: 8, 11, 12, 13

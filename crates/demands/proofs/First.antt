@@ -5,11 +5,12 @@
 -- `searched`, `reading`, `making`, `writing`, `listing` and `printing` say, and ask nothing.
 --     one-load .. one-line                          one answer and one content of lent memory; of the C functions: Ones, `c-load-one` and those after it
 --     listed, leaves, told-to-c                     a load's refusals (refusals, specs/Refusals)
+--     search-refused .. line-refused                the numbers that every other call is refused by, in its order
 --     refused-write, refused-list                   "No refusal touches image or list."
 --     found, found-none                             what the search finds
 use Prim.Native.Nat.{ℕ, suc, _≤_, _<_}
 use mathlib.Core.Path.{_≡_}
-use mathlib.Core.List.{List}
+use mathlib.Core.List.{List, [], _∷_}
 use mathlib.Core.Bool.{false}
 use mathlib.Core.Logic.{_⊎_}
 use lib.ListN.{length, replicate}
@@ -25,12 +26,15 @@ use Rattle.look.specs.declared.read.ReadAnswer.{ReadAnswer}
 use Rattle.look.specs.declared.call.CallAnswer.{CallAnswer}
 use Rattle.demands.proofs.Runs as runs
 use Rattle.demands.proofs.Searched as search
+use Rattle.look.proofs.Numbers as numbers
+use Rattle.look.proofs.Numbers.{RefusedBy}
 use Rattle.listing.specs.Listing.{listing, printing, listedOf}
 use Rattle.listing.specs.declared.listing.ListingAnswer.{ListingAnswer}
 use Rattle.numbers.specs.Numbers.{loadNumber}
 use Rattle.numbers.specs.Back.{loadBack}
 use Rattle.refusals.specs.Refusals.{Refusal}
 use Rattle.demands.proofs.Ones as ones
+use Rattle.demands.proofs.Orders as orders
 use Rattle.refusals.proofs.Refusing as refusing
 use Rattle.demands.proofs.Telling as telling
 
@@ -73,6 +77,25 @@ module _ (x image : List ℕ) (base : ℕ) (tables work : List ℕ) where
   -- the number that a C caller gets tells the answer
   pub told-to-c : loadBack (loadNumber (loaded x image base tables work .answer)) ≡ loaded x image base tables work .answer
   told-to-c = telling.load-number-tells x image base tables work
+
+-- "Reading an element: 20, 22, 14. Write order: 20, 22, 14, 21, 19, 15, 16, 17, 18. Making a list: 20, 22.": by these numbers alone (look, Numbers: `RefusedBy`)
+pub search-refused : (x t : List ℕ) (l : Lent) (w : List ℕ) → RefusedBy (20 ∷ 22 ∷ []) (searched x t l w)
+search-refused = numbers.searched-numbers
+
+pub read-refused : (t image : List ℕ) (l : Lent) (o p i : ℕ) → RefusedBy (20 ∷ 22 ∷ 14 ∷ []) (reading t image l o p i)
+read-refused = numbers.reading-numbers
+
+pub list-refused : (t : List ℕ) (n base : ℕ) (k : Kept) → RefusedBy (20 ∷ 22 ∷ []) (making t n base k .answer)
+list-refused = numbers.making-numbers
+
+pub write-refused : (t : List ℕ) (n base : ℕ) (k : Kept) (q : Request) → RefusedBy (20 ∷ 22 ∷ 14 ∷ 21 ∷ 19 ∷ 15 ∷ 16 ∷ 17 ∷ 18 ∷ []) (writing t n base k q .answer)
+write-refused = numbers.writing-numbers
+
+pub listing-refused : (x t : List ℕ) (base : ℕ) (k : Kept) (out : List ℕ) → RefusedBy (20 ∷ 22 ∷ 20 ∷ []) (listing x t base k out .answer)
+listing-refused = orders.listing-numbers
+
+pub line-refused : (x t : List ℕ) (base : ℕ) (k : Kept) (o p i : ℕ) (out : List ℕ) → RefusedBy (20 ∷ 22 ∷ 14 ∷ 20 ∷ []) (printing x t base k o p i out .answer)
+line-refused = orders.line-numbers
 
 -- "No refusal touches image or list."
 pub refused-write : (t : List ℕ) (n base : ℕ) (k : Kept) (q : Request) (c : ℕ) → writing t n base k q .answer ≡ number.refused c → writing t n base k q .left ≡ k

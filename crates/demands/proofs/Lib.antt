@@ -18,6 +18,7 @@ pub mod Loaded
 pub mod Telling
 pub mod Standing
 pub mod Ones
+pub mod Orders
 pub mod Keeping
 pub mod Frames
 pub mod Meaning

@@ -4,16 +4,17 @@
 use Prim.Native.Nat.{ℕ, suc, _-_, _≤_, _<_, min}
 use mathlib.Core.Path.{_≡_, refl, sym, ap, subst}
 use mathlib.Core.List.{List}
-use mathlib.Core.Bool.{true, false, not, _&&_}
+use mathlib.Core.Bool.{true, false, not}
 use native.Mathlib.Omega.{arith}
-use borrow.Author.Tests.{leb-true, ne-eqb}
+use borrow.Author.Tests.{ne-eqb}
 use lib.Dec.{eqb}
 use lib.IntN.{ℤ, pos, negsuc, negℤ, natAbs}
 use lib.ListN.{getD}
-use Rattle.text.proofs.Within.{by-test, and-left, and-right}
+use Rattle.text.proofs.Within.{by-test, and-left}
 use Rattle.number.specs.Answer.{given}
 use Rattle.number.specs.Form.{isGiven}
-use Rattle.convert.specs.Whole.{small, allSmall}
+use Rattle.convert.specs.Whole.{allSmall, Small}
+use Rattle.convert.proofs.Wholes.{small-facts}
 use Rattle.number.specs.Signed.{signedOf}
 use Rattle.convert.specs.Method.{identicalOf, sameProducts, soundMethod}
 use Rattle.convert.specs.declared.method.Coefficients.{Coefficients}
@@ -40,17 +41,9 @@ signed-back : (z : ℤ) → natAbs z ≤ 1000000000 → signedOf (eqb (flag (isB
 signed-back (pos n) h = let e : min n 1000000001 ≡ n = omega arith in ap pos e
 signed-back (negsuc n) h = let e : min (suc n) 1000000001 ≡ suc n = omega arith in ap (λ k. negℤ (pos k)) e
 
-smalls : (k : Coefficients) → soundMethod k ≡ true → (natAbs (k .b) ≤ 1000000000) × (natAbs (k .c) ≤ 1000000000) × (natAbs (k .e) ≤ 1000000000) × (natAbs (k .f) ≤ 1000000000)
-unfolding soundMethod allSmall
-smalls k e =
-    let a = and-left (allSmall k) (not (sameProducts k)) e in
-    let b = and-left (small (k .b) && small (k .c) && small (k .e)) (small (k .f)) a in
-    let c = and-left (small (k .b) && small (k .c)) (small (k .e)) b in (
-      leb-true (natAbs (k .b)) 1000000000 (and-left (small (k .b)) (small (k .c)) c),
-      leb-true (natAbs (k .c)) 1000000000 (and-right (small (k .b)) (small (k .c)) c),
-      leb-true (natAbs (k .e)) 1000000000 (and-right (small (k .b) && small (k .c)) (small (k .e)) b),
-      leb-true (natAbs (k .f)) 1000000000 (and-right (small (k .b) && small (k .c) && small (k .e)) (small (k .f)) a),
-    )
+smalls : (k : Coefficients) → soundMethod k ≡ true → Small k
+unfolding soundMethod
+smalls k e = small-facts k (and-left (allSmall k) (not (sameProducts k)) e)
 
 -- IDENTICAL, LINEAR and RAT_FUNC are not verbal
 not-verbal : (v : View) (j : ℕ) → isVerbal (conversionOf v j) ≡ false
@@ -81,16 +74,16 @@ module _ (image : List ℕ) (base : ℕ) (x : List ℕ) (d : List (List (List �
       row = method-row z
 
       first : coefficient T m bCell ≡ c .b
-      first = rw (row 1, row 2, e) (signed-back (c .b) (smalls c is .0))
+      first = rw (row 1, row 2, e) (signed-back (c .b) (smalls c is .b))
 
       second : coefficient T m cCell ≡ c .c
-      second = rw (row 3, row 4, e) (signed-back (c .c) (smalls c is .1))
+      second = rw (row 3, row 4, e) (signed-back (c .c) (smalls c is .c))
 
       third : coefficient T m eCell ≡ c .e
-      third = rw (row 5, row 6, e) (signed-back (c .e) (smalls c is .2))
+      third = rw (row 5, row 6, e) (signed-back (c .e) (smalls c is .e))
 
       fourth : coefficient T m fCell ≡ c .f
-      fourth = rw (row 7, row 8, e) (signed-back (c .f) (smalls c is .3))
+      fourth = rw (row 7, row 8, e) (signed-back (c .f) (smalls c is .f))
 
 -- ---- what a group with a method, and one with none, is asked by
 module _ (T : Tables) (g : ℕ) where

@@ -12,6 +12,8 @@ pub mod Coming
 pub mod Starting
 pub mod Placing
 pub mod Leading
+pub mod Equals
+pub mod Sounding
 pub mod Ruling
 pub mod Accepting
 pub mod Loaded

@@ -33,6 +33,7 @@ use Rattle.keeps.proofs.Groups.{inside-all}
 use Rattle.demands.specs.Rules.{MaskKeeps, ObjectKeeps, Keeps}
 use Rattle.demands.proofs.Placing.{placed-exactly}
 use Rattle.demands.proofs.Leading.{leads-exactly}
+use Rattle.demands.proofs.Sounding.{method-keeps}
 
 -- ---- masks
 mask-keeps : (t : Shape) (m : ℕ) → maskRule t m ≡ true → MaskKeeps t m
@@ -139,7 +140,7 @@ pub keeps-accepted : (x image : List ℕ) (base : ℕ) (k : Keeps x image base) 
 keeps-accepted x image base k =
     record {
       references = λ r m i l z. leads-exactly x (view (k .records)) r (slot (k .records) (r .sec) i (r .slot)) (slot (k .records) (r .sec) i (r .slot + 1)) .1 (k .references r m i l z);
-      conversions = k .conversions;
+      conversions = λ i l. method-keeps (view (k .records)) i .1 (k .conversions i l);
       masks = λ i l. masked-fits x (view (k .records)) i (k .objects i l .mask);
       places = λ i l. object-placed image base x (k .records) i (k .objects i l);
       bytes = λ i l. object-bytes image base x (k .records) i (k .objects i l);
@@ -148,4 +149,4 @@ keeps-accepted x image base k =
 
 pub accepted-keeps : (x image : List ℕ) (base : ℕ) (d : Records) → Description x d → Accepted image base x d → Keeps x image base
 accepted-keeps x image base d t a =
-    record { records = d; tree = t; references = λ r m i l z. leads-exactly x (view d) r (slot d (r .sec) i (r .slot)) (slot d (r .sec) i (r .slot + 1)) .0 (a .references r m i l z); conversions = a .conversions; objects = accepted-objects image base x d a; elements = a .elements }
+    record { records = d; tree = t; references = λ r m i l z. leads-exactly x (view d) r (slot d (r .sec) i (r .slot)) (slot d (r .sec) i (r .slot + 1)) .0 (a .references r m i l z); conversions = λ i l. method-keeps (view d) i .0 (a .conversions i l); objects = accepted-objects image base x d a; elements = a .elements }

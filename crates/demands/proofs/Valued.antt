@@ -36,6 +36,7 @@ use Rattle.demands.specs.Rules.{Fits, Keeps}
 use Rattle.demands.specs.Standing.{sourceOf, conversionFrom, conversionPast}
 use Rattle.demands.specs.Value.{CoefficientsBy, by-none, by-method, TableBy, by-reference, ValueBy, by-fraction, by-table}
 use Rattle.demands.proofs.Leading.{bears-found}
+use Rattle.demands.proofs.Sounding.{method-keeps}
 use Rattle.demands.proofs.Loaded as loaded
 use Rattle.demands.proofs.Standing.{part-held}
 use Rattle.demands.proofs.Verbal.{TableSays, value-verbal}
@@ -84,7 +85,7 @@ module _ (x image : List ℕ) (base : ℕ) (lent work : List ℕ) (f : Fits x im
           verbal (s .0) (s .1 .below) (by-reference m (s .0) u b v (s .1)) (h .0) (h .1)
       by-type false y =
           let v = eqb-false (slot d method m conversion-type) TAB-VERB y in
-          let c = given-of (coefficients (view d) m) (k .conversions m (b .below)) in
+          let c = given-of (coefficients (view d) m) (method-keeps (view d) m .1 (k .conversions m (b .below))) in
           let h = method-held x image base lent work f k m (b .below) v (c .0) (c .1) in
           plain (c .0) (by-method m (c .0) u b v (c .1)) (verbal-not (tablesIn t) g m q (h .0)) (asks-some (tablesIn t) g m q (c .0) (h .1))
 

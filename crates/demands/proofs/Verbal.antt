@@ -1,13 +1,13 @@
 -- THE SECOND DEMAND: "its physical value is the exact fraction or text, or none", under TAB_VERB.
 --     value-verbal     for tables that keep the rule
 use Prim.Native.Nat.{ℕ, zero, suc, _+_, _-_, _^_, _≤_, _<_, min}
-use mathlib.Core.Path.{_≡_, refl, sym, _∙_, ap, subst}
+use mathlib.Core.Path.{_≡_, refl, subst}
 use mathlib.Core.List.{List}
 use mathlib.Core.Bool.{Bool, true, false, cond, not, false≢true}
 use native.Mathlib.Omega.{arith}
-use borrow.Author.Tests.{eqb-true, eqb-false, eq-eqb, lt-ltb}
+use borrow.Author.Tests.{eqb-true, eqb-false, lt-ltb}
 use lib.Dec.{eqb}
-use lib.IntN.{ℤ, pos, negsuc}
+use lib.IntN.{ℤ}
 use Rattle.records.specs.Cells.{countIn}
 use Rattle.number.specs.Most.{mostEntries}
 use Rattle.convert.specs.Whole.{eqZ}
@@ -20,20 +20,7 @@ use Rattle.tables.proofs.Reading.{method-below, verbal-below, entries-below, en
 use Rattle.look.specs.Element.{textAt, meansBy, means}
 use Rattle.look.specs.Calls.{groups, isTabVerb}
 use Rattle.demands.specs.Value.{TextBy, by-entry, by-other}
-
--- ---- whole numbers that the test calls the same
-eqZ-same : (z : ℤ) → eqZ z z ≡ true
-eqZ-same (pos n) = eq-eqb n n refl
-eqZ-same (negsuc n) = eq-eqb n n refl
-
-eqZ-is : (a b : ℤ) → eqZ a b ≡ true → a ≡ b
-eqZ-is (pos a) (pos b) h = ap pos (eqb-true a b h)
-eqZ-is (pos a) (negsuc b) h = absurd (false≢true h)
-eqZ-is (negsuc a) (pos b) h = absurd (false≢true h)
-eqZ-is (negsuc a) (negsuc b) h = ap negsuc (eqb-true a b h)
-
-eqZ-not : (a b : ℤ) → eqZ a b ≡ false → a ≡ b → ⊥
-eqZ-not a b h e = false≢true (sym h ∙ ap (λ (z : ℤ). eqZ z b) e ∙ eqZ-same b)
+use Rattle.demands.proofs.Equals.{eqZ-is, eqZ-not}
 
 -- ---- the entries
 small-place : (n : ℕ) → n < 2 ^ 63 → placeIn n ≡ n

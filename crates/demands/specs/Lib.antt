@@ -1,6 +1,7 @@
 -- What the demands are about.
 pub mod Placed
 pub mod Leads
+pub mod Conversions
 pub mod Rules
 pub mod Nearest
 pub mod Value

@@ -4,7 +4,6 @@ use mathlib.Core.Path.{_≡_}
 use mathlib.Core.List.{List}
 use mathlib.Core.Bool.{true, false}
 use lib.ListN.{length}
-use Rattle.number.specs.Form.{isGiven}
 use Rattle.number.specs.Most.{mostElements}
 use Rattle.records.specs.Records.{count, slot}
 use Rattle.rows.specs.Sections.{method, object}
@@ -14,13 +13,13 @@ use Rattle.cell.specs.Kind.{shapeOf}
 use Rattle.cell.specs.declared.kind.Shape.{Shape}
 use Rattle.refer.specs.Refer.{referenceRows}
 use Rattle.refer.specs.declared.Row.{Row}
-use Rattle.methods.specs.Methods.{coefficients}
 use Rattle.place.specs.declared.walk.Places.{Places}
 use Rattle.objects.specs.Object.{layoutOf, groundOf, needOf}
 use Rattle.tree.specs.Tree.{Among, Records, Description}
 use Rattle.keeps.specs.Accepted.{allElements}
 use Rattle.keeps.specs.Stands.{Part, needed, addressOf, typeOf, acrossOf, downOf}
 use Rattle.demands.specs.Leads.{Leads}
+use Rattle.demands.specs.Conversions.{MethodKeeps}
 use Rattle.demands.specs.Placed.{ObjectPlaced}
 
 -- "At most 16 MiB of description, 1 MiB of image, base address plus image length 2^32"; "A table is too short (20) below its full capacity":
@@ -57,8 +56,8 @@ pub record Keeps (x image : List ℕ) (base : ℕ) : Type 0 where
   -- hold references, and to what)
   pub references : (r : Row) → Among r referenceRows → (i : ℕ) → i < count records (r .sec) → (slot records (r .sec) i (r .slot + 1) ≡ 0 → ⊥)
       → Leads x (view records) r (slot records (r .sec) i (r .slot)) (slot records (r .sec) i (r .slot + 1))
-  -- every method has its coefficients (10)
-  pub conversions : (i : ℕ) → i < count records method → isGiven (coefficients (view records) i) ≡ true
+  -- every method keeps the rule on its coefficients (10)
+  pub conversions : (i : ℕ) → i < count records method → MethodKeeps (view records) i
   pub objects : (i : ℕ) → i < count records object → ObjectKeeps image base x (view records) i
   -- "4,096 elements in all objects"
   pub elements : allElements image base x records ≤ mostElements

@@ -1,4 +1,4 @@
--- THE SECOND DEMAND, for the call that reads: what it answers for each element of an accepted load.
+-- THE SECOND DEMAND, for the call that reads: what it answers for each element of an accepted load, then and after any writes.
 --     element-read     it is accepted, and answers what the description and the image say
 use Prim.Native.Nat.{ℕ, _-_, _*_, _<_}
 use mathlib.Core.Path.{_≡_, refl}
@@ -34,14 +34,15 @@ module _ (x image : List ℕ) (base : ℕ) (lent work : List ℕ) (f : Fits x im
   abbrev t : List ℕ
   t = loaded.t x image base lent work f k
 
-  module _ (bytes : (j : ℕ) → getD image j 0 < 256) (i : ℕ) (l : i < count d records.object) (p : Part) (e : needed (needOf image base x (view d) i) p ≡ true) (j : ℕ)
+  -- in an image of bytes as long as the load's: the same, or what writes have left
+  module _ (now : List ℕ) (long : length now ≡ length image) (bytes : (j : ℕ) → getD now j 0 < 256) (i : ℕ) (l : i < count d records.object) (p : Part) (e : needed (needOf image base x (view d) i) p ≡ true) (j : ℕ)
       (below : j < acrossOf (k .objects i l .places) p * downOf (k .objects i l .places) p) where
     abbrev g : ℕ
     g = groupOf i (numberOf p)
 
     -- what the call answers
     abbrev answer : Reading
-    answer = readingOf (tablesIn t) g (rawIn (tablesIn t) image g j)
+    answer = readingOf (tablesIn t) g (rawIn (tablesIn t) now g j)
 
     is-element : isElement (tablesIn t) i (numberOf p) j ≡ true
     unfolding isElement
@@ -53,27 +54,27 @@ module _ (x image : List ℕ) (base : ℕ) (lent work : List ℕ) (f : Fits x im
           lt-ltb j (elements (tablesIn t) g) (rw (h .across, h .down) below),
         )
 
-    answered : reading t image (lentOf (length x) (length image) base) i (numberOf p) j ≡ given answer
+    answered : reading t now (lentOf (length x) (length now) base) i (numberOf p) j ≡ given answer
     unfolding reading checked
-    answered = rw (loaded.sizes x image base lent work f k, loaded.keeps-rule x image base lent work f k, is-element)
+    answered = rw (long, loaded.sizes x image base lent work f k, loaded.keeps-rule x image base lent work f k, is-element)
 
-    raw-is : rawIn (tablesIn t) image g j
-        ≡ rawAt (firstOf (view d) i) (elementAt x (view d) i (layoutOf x (view d) i) (k .objects i l .places) p j - base) (shapeOf (typeOf (layoutOf x (view d) i) p)) (partMask x (view d) i p) image
+    raw-is : rawIn (tablesIn t) now g j
+        ≡ rawAt (firstOf (view d) i) (elementAt x (view d) i (layoutOf x (view d) i) (k .objects i l .places) p j - base) (shapeOf (typeOf (layoutOf x (view d) i) p)) (partMask x (view d) i p) now
     unfolding rawIn
     raw-is =
         let h = part-held x image base lent work f k i l p e in
         let a : placeOf (tablesIn t) g j ≡ elementAt x (view d) i (layoutOf x (view d) i) (k .objects i l .places) p j - base = omega (arith, h .element j) in
         rw (h .order, h .stands .type, h .masked, a)
 
-    pub element-read : (r : Reading) × (reading t image (lentOf (length x) (length image) base) i (numberOf p) j ≡ given r)
-        × ReadsAs x (view d) i image base (layoutOf x (view d) i) (k .objects i l .places) p j r
+    pub element-read : (r : Reading) × (reading t now (lentOf (length x) (length now) base) i (numberOf p) j ≡ given r)
+        × ReadsAs x (view d) i now base (layoutOf x (view d) i) (k .objects i l .places) p j r
     element-read = (
       answer,
       answered,
       record {
         raw = raw-is;
-        value = means (tablesIn t) g (rawIn (tablesIn t) image g j);
-        by = value-by x image base lent work f k i l p e bytes j;
+        value = means (tablesIn t) g (rawIn (tablesIn t) now g j);
+        by = value-by x image base lent work f k i l p e now bytes j;
         is-held = refl;
         is-shown = refl;
       },

@@ -4,7 +4,7 @@ use mathlib.Core.Path.{_≡_, refl, subst}
 use mathlib.Core.List.{List}
 use mathlib.Core.Bool.{Bool, true, false, not, _&&_, _||_, false≢true}
 use native.Mathlib.Omega.{arith}
-use borrow.Author.Tests.{eqb-false, ne-eqb, ltb-true, lt-ltb, le-leb}
+use borrow.Author.Tests.{not-true, eqb-false, ne-eqb, ltb-true, lt-ltb, le-leb}
 use lib.Dec.{eqb, ltb}
 use lib.ListN.{length}
 use Rattle.text.proofs.Within.{and-left, and-right}
@@ -41,14 +41,10 @@ unfolding maskRule
 mask-keeps t m h =
     let ab : (not (t .signed) && ltb 0 m) ≡ true = and-left (not (t .signed) && ltb 0 m) (ltb m (256 ^ t .bytes)) h in
     record {
-      unsigned = off (t .signed) (and-left (not (t .signed)) (ltb 0 m) ab);
+      unsigned = not-true (t .signed) (and-left (not (t .signed)) (ltb 0 m) ab);
       some = ltb-true 0 m (and-right (not (t .signed)) (ltb 0 m) ab);
       inside = ltb-true m (256 ^ t .bytes) (and-right (not (t .signed) && ltb 0 m) (ltb m (256 ^ t .bytes)) h);
     }
-  where
-    off : (b : Bool) → not b ≡ true → b ≡ false
-    off true e = absurd (false≢true e)
-    off false e = refl
 
 keeps-mask : (t : Shape) (m : ℕ) → MaskKeeps t m → maskRule t m ≡ true
 unfolding maskRule
@@ -100,7 +96,8 @@ module _ (image : List ℕ) (base : ℕ) (n : Need) (l : Layout) (at : Places) w
       (or-not (n .values) _ (λ e. in-image (at .values) (shapeOf (l .values .kind) .bytes * (at .cx * at .cy)) (h values e)))
 
 -- ---- an object
-given-of : (a : Answer Reached) → isGiven a ≡ true → (t : Reached) × (a ≡ given t)
+-- what is given
+pub given-of : {A : Type 0} (a : Answer A) → isGiven a ≡ true → (t : A) × (a ≡ given t)
 given-of (given t) h = (t, refl)
 given-of (refused k) h = absurd (false≢true h)
 

@@ -64,11 +64,11 @@ module _ (x image : List ℕ) (base : ℕ) (tables work : List ℕ) where
           (k .objects i l .places) p
       stands = standing.part-held x image base tables work f k i l p e
 
-      -- "its physical value is the exact fraction or text, or none": reading element j of an image of bytes
-      pub reads : ((j : ℕ) → getD image j 0 < 256) → (j : ℕ) → j < acrossOf (k .objects i l .places) p * downOf (k .objects i l .places) p
-          → (r : Reading) × (reading (loaded x image base tables work .tables) image (lentOf (length x) (length image) base) i (numberOf p) j ≡ given r)
-          × ReadsAs x (view (k .records)) i image base (layoutOf x (view (k .records)) i) (k .objects i l .places) p j r
-      reads b j h = readings.element-read x image base tables work f k b i l p e j h
+      -- "its physical value is the exact fraction or text, or none": reading element j, in the load's image of bytes or in one as long that writes have left
+      pub reads : (now : List ℕ) → length now ≡ length image → ((j : ℕ) → getD now j 0 < 256) → (j : ℕ) → j < acrossOf (k .objects i l .places) p * downOf (k .objects i l .places) p
+          → (r : Reading) × (reading (loaded x image base tables work .tables) now (lentOf (length x) (length now) base) i (numberOf p) j ≡ given r)
+          × ReadsAs x (view (k .records)) i now base (layoutOf x (view (k .records)) i) (k .objects i l .places) p j r
+      reads now e′ b j h = readings.element-read x image base tables work f k now e′ b i l p e j h
 
       -- "A physical write stores the whole number nearest to what the conversion asks, halves away from zero, or is refused.": to element j, in any image of bytes
       pub stores : (c : Kept) → ((j : ℕ) → getD (c .image) j 0 < 256) → (j : ℕ) (s : List ℕ)

@@ -4,7 +4,7 @@ use Prim.Native.Nat.{ℕ}
 use mathlib.Core.Path.{_≡_, refl}
 use mathlib.Core.Bool.{Bool, true, false, cond, not, _&&_, false≢true}
 use mathlib.Core.Logic.{_↔_}
-use borrow.Author.Tests.{le-leb, eqb-true}
+use borrow.Author.Tests.{not-true, le-leb, eqb-true}
 use lib.Dec.{eqb}
 use lib.IntN.{natAbs, _*ℤ_}
 use Rattle.text.proofs.Within.{and-left, and-right}
@@ -41,11 +41,7 @@ facts-small k s =
 sound-keeps : (k : Coefficients) → soundMethod k ≡ true → FourKeep k
 unfolding soundMethod
 sound-keeps k h =
-    record { small = small-facts k (and-left (allSmall k) (not (sameProducts k)) h); apart = eqZ-not (k .b *ℤ k .f) (k .c *ℤ k .e) (off (sameProducts k) (and-right (allSmall k) (not (sameProducts k)) h)) }
-  where
-    off : (b : Bool) → not b ≡ true → b ≡ false
-    off true e = absurd (false≢true e)
-    off false e = refl
+    record { small = small-facts k (and-left (allSmall k) (not (sameProducts k)) h); apart = eqZ-not (k .b *ℤ k .f) (k .c *ℤ k .e) (not-true (sameProducts k) (and-right (allSmall k) (not (sameProducts k)) h)) }
 
 keeps-sound : (k : Coefficients) → FourKeep k → soundMethod k ≡ true
 unfolding soundMethod

@@ -11,8 +11,6 @@ use borrow.Author.Tests.{eqb-true, eqb-false}
 use lib.Dec.{eqb}
 use lib.IntN.{ℤ}
 use lib.ListN.{length, getD}
-use Rattle.number.specs.Answer.{Answer, given, refused}
-use Rattle.number.specs.Form.{isGiven}
 use Rattle.convert.specs.Fraction.{fraction}
 use Rattle.convert.specs.Method.{identicalOf}
 use Rattle.convert.specs.declared.method.Coefficients.{Coefficients}
@@ -37,6 +35,7 @@ use Rattle.demands.specs.Standing.{sourceOf, conversionFrom, conversionP
 use Rattle.demands.specs.Value.{CoefficientsBy, by-none, by-method, TableBy, by-reference, ValueBy, by-fraction, by-table}
 use Rattle.demands.proofs.Leading.{bears-found}
 use Rattle.demands.proofs.Sounding.{method-keeps}
+use Rattle.demands.proofs.Ruling.{given-of}
 use Rattle.demands.proofs.Loaded as loaded
 use Rattle.demands.proofs.Standing.{part-held}
 use Rattle.demands.proofs.Verbal.{TableSays, value-verbal}
@@ -44,11 +43,6 @@ use Rattle.demands.proofs.Tabled.{verbal-held, table-text}
 use Rattle.demands.proofs.Sources.{pointed, MethodBy, no-method, a-method, method-named}
 use Rattle.demands.proofs.Converting.{verbal-not, asks-some, verbal-none, asks-none, method-held}
 use Rattle.demands.proofs.Meaning.{value-exact}
-
--- coefficients that are given
-given-of : (a : Answer Coefficients) → isGiven a ≡ true → (c : Coefficients) × (a ≡ given c)
-given-of (given c) h = (c, refl)
-given-of (refused n) h = absurd (false≢true h)
 
 module _ (x image : List ℕ) (base : ℕ) (lent work : List ℕ) (f : Fits x image base lent work) (k : Keeps x image base) where
   abbrev d : Records
@@ -103,17 +97,17 @@ module _ (x image : List ℕ) (base : ℕ) (lent work : List ℕ) (f : Fits x im
     part-converted : ConvertedBy from past g
     part-converted = converted-by from past g (methodIn x (view d) (sourceOf x (view d) i p)) (method-named x image base k i l p e) (part-held x image base lent work f k i l p e .converted)
 
-    -- what the raw number of element j of part p of object i means
-    pub value-by : ((j : ℕ) → getD image j 0 < 256) → (j : ℕ) → ValueBy x (view d) from past (rawIn (tablesIn t) image g j) (means (tablesIn t) g (rawIn (tablesIn t) image g j))
-    value-by bytes j = by-conversion part-converted
+    -- what the raw number of element j of part p of object i means, in any image of bytes
+    pub value-by : (now : List ℕ) → ((j : ℕ) → getD now j 0 < 256) → (j : ℕ) → ValueBy x (view d) from past (rawIn (tablesIn t) now g j) (means (tablesIn t) g (rawIn (tablesIn t) now g j))
+    value-by now bytes j = by-conversion part-converted
       where
         z : ℤ
-        z = rawIn (tablesIn t) image g j
+        z = rawIn (tablesIn t) now g j
 
         by-conversion : ConvertedBy from past g → ValueBy x (view d) from past z (means (tablesIn t) g z)
         by-conversion (plain c b v a) =
             subst (ValueBy x (view d) from past z)
-            (sym (value-exact (length x) (length image) t (loaded.keeps-rule x image base lent work f k) g (loaded.group-below x image base lent work f k i l p) v image bytes j ∙ ap (λ (q : Coefficients). fraction q z) a))
+            (sym (value-exact (length x) (length image) t (loaded.keeps-rule x image base lent work f k) g (loaded.group-below x image base lent work f k i l p) v now bytes j ∙ ap (λ (q : Coefficients). fraction q z) a))
             (by-fraction c b)
         by-conversion (verbal s b r v a) =
             by-table s (means (tablesIn t) g z) r (table-text x image base lent work f k s b z (means (tablesIn t) g z)

@@ -3,9 +3,9 @@
 use Prim.Native.Nat.{ℕ, zero, suc, _+_, _-_, _^_, _≤_, _<_, min}
 use mathlib.Core.Path.{_≡_, refl, subst}
 use mathlib.Core.List.{List}
-use mathlib.Core.Bool.{Bool, true, false, cond, not, false≢true}
+use mathlib.Core.Bool.{Bool, true, false, cond, not}
 use native.Mathlib.Omega.{arith}
-use borrow.Author.Tests.{eqb-true, eqb-false, lt-ltb}
+use borrow.Author.Tests.{not-true, eqb-true, eqb-false, lt-ltb}
 use lib.Dec.{eqb}
 use lib.IntN.{ℤ}
 use Rattle.records.specs.Cells.{countIn}
@@ -104,12 +104,8 @@ module _ (n m : ℕ) (t : List ℕ) (rule : keepsRule n m t ≡ true) (short : n
       let T = tablesIn t in
       let a = not (eqb (methodOf T g) 0) in
       let b = isVerbal (T .slots methodSection (methodOf T g - 1) conversionCell) in
-      let f : eqb (methodOf T g) 0 ≡ false = off (eqb (methodOf T g) 0) (and-left a b v) in
+      let f : eqb (methodOf T g) 0 ≡ false = not-true (eqb (methodOf T g) 0) (and-left a b v) in
       let r : b ≡ true = and-right a b v in
       let o : methodOf T g ≡ 0 → ⊥ = eqb-false (methodOf T g) 0 f in
       let k = verbal-below n m t rule (methodOf T g - 1) (omega (arith, method-below n m t rule g l)) (eqb-true (T .slots methodSection (methodOf T g - 1) conversionCell) 22 r) in
       rw (f, r) (table-says (T .slots methodSection (methodOf T g - 1) tableCell - 1) z (omega (arith, k .0, k .1)))
-    where
-      off : (c : Bool) → not c ≡ true → c ≡ false
-      off true h = absurd (false≢true h)
-      off false h = refl

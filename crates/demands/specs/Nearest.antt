@@ -20,7 +20,7 @@ dividendAt k p = k .b *ℤ signedOf (p .negative) (p .whole) +ℤ k .c *ℤ pos 
 abbrev pub divisorAt : Coefficients → Scaled → ℤ
 divisorAt k p = k .e *ℤ signedOf (p .negative) (p .whole) +ℤ k .f *ℤ pos (10 ^ p .tens)
 
--- twice the distance of z from the quotient, and twice the half of a step, both times the divisor
+-- twice the distance of z from the quotient, times the divisor: at most the divisor where z is at most half a step off
 abbrev pub TwiceOff : Coefficients → Scaled → ℤ → ℕ
 TwiceOff k p z = 2 * natAbs (z *ℤ divisorAt k p -ℤ dividendAt k p)
 

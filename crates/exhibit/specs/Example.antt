@@ -63,8 +63,10 @@ exampleImage =
 -- the sections of the tables: head, objects, groups, methods, verbal tables, entries (tables, specs/Form.antt)
 abbrev pub exampleTables : List (List (List ℕ))
 exampleTables =
+    -- head: edition, size mark, elements
     ((0 ∷ 0 ∷ 37 ∷ []) ∷ [])
     ∷ (
+    -- an object: its name from and up to, what it is
     (1247 ∷ 1253 ∷ 15 ∷ [])
     ∷ (1357 ∷ 1362 ∷ 17 ∷ [])
     ∷ (1537 ∷ 1542 ∷ 18 ∷ [])
@@ -75,33 +77,46 @@ exampleTables =
     ∷ (2414 ∷ 2418 ∷ 10 ∷ [])
     ∷ [])
     ∷ (
+    -- a part: data type, byte order, place, points in x and y, room in x and y, walk, method, mask, forbidden, lower limit, upper limit (sign, whole, power),
+    -- its count's data type and place; of each object x points, y points, values
+    -- Masked
     replicate groupWidth 0
     ∷ replicate groupWidth 0
     ∷ (3 ∷ 1 ∷ 12 ∷ 1 ∷ 1 ∷ 1 ∷ 1 ∷ 0 ∷ 1 ∷ 240 ∷ 1 ∷ 0 ∷ 0 ∷ 0 ∷ 0 ∷ 65535 ∷ 0 ∷ 0 ∷ 0 ∷ [])
+    -- Curve
     ∷ (3 ∷ 1 ∷ 2 ∷ 3 ∷ 1 ∷ 3 ∷ 1 ∷ 0 ∷ 0 ∷ 0 ∷ 0 ∷ 0 ∷ 0 ∷ 0 ∷ 0 ∷ 65535 ∷ 0 ∷ 1 ∷ 1 ∷ [])
     ∷ replicate groupWidth 0
     ∷ (1 ∷ 1 ∷ 8 ∷ 3 ∷ 1 ∷ 3 ∷ 1 ∷ 0 ∷ 0 ∷ 0 ∷ 0 ∷ 0 ∷ 0 ∷ 0 ∷ 0 ∷ 255 ∷ 0 ∷ 0 ∷ 0 ∷ [])
+    -- Field
     ∷ (1 ∷ 1 ∷ 16 ∷ 2 ∷ 1 ∷ 2 ∷ 1 ∷ 1 ∷ 0 ∷ 0 ∷ 1 ∷ 0 ∷ 0 ∷ 0 ∷ 0 ∷ 255 ∷ 0 ∷ 0 ∷ 0 ∷ [])
     ∷ (2 ∷ 1 ∷ 20 ∷ 3 ∷ 1 ∷ 3 ∷ 1 ∷ 0 ∷ 0 ∷ 0 ∷ 0 ∷ 1 ∷ 100 ∷ 0 ∷ 0 ∷ 100 ∷ 0 ∷ 0 ∷ 0 ∷ [])
     ∷ (6 ∷ 1 ∷ 24 ∷ 2 ∷ 3 ∷ 2 ∷ 3 ∷ 2 ∷ 0 ∷ 0 ∷ 0 ∷ 1 ∷ 15 ∷ 1 ∷ 0 ∷ 2000 ∷ 0 ∷ 0 ∷ 0 ∷ [])
+    -- Shared
     ∷ (4 ∷ 0 ∷ 56 ∷ 2 ∷ 1 ∷ 2 ∷ 1 ∷ 1 ∷ 3 ∷ 0 ∷ 0 ∷ 1 ∷ 30 ∷ 0 ∷ 0 ∷ 31 ∷ 0 ∷ 1 ∷ 48 ∷ [])
     ∷ replicate groupWidth 0
     ∷ replicate groupWidth 0
+    -- Over
     ∷ replicate groupWidth 0
     ∷ replicate groupWidth 0
     ∷ (3 ∷ 1 ∷ 64 ∷ 2 ∷ 1 ∷ 2 ∷ 1 ∷ 0 ∷ 1 ∷ 0 ∷ 0 ∷ 1 ∷ 20 ∷ 0 ∷ 0 ∷ 215 ∷ 1 ∷ 0 ∷ 0 ∷ [])
+    -- Block
     ∷ replicate groupWidth 0
     ∷ replicate groupWidth 0
     ∷ (3 ∷ 0 ∷ 68 ∷ 3 ∷ 1 ∷ 3 ∷ 1 ∷ 0 ∷ 0 ∷ 0 ∷ 0 ∷ 0 ∷ 1 ∷ 0 ∷ 0 ∷ 2 ∷ 0 ∷ 0 ∷ 0 ∷ [])
+    -- Grid
     ∷ (1 ∷ 1 ∷ 96 ∷ 3 ∷ 1 ∷ 3 ∷ 1 ∷ 0 ∷ 1 ∷ 0 ∷ 0 ∷ 0 ∷ 1 ∷ 0 ∷ 0 ∷ 325 ∷ 2 ∷ 1 ∷ 84 ∷ [])
     ∷ (5 ∷ 1 ∷ 86 ∷ 2 ∷ 1 ∷ 2 ∷ 1 ∷ 1 ∷ 3 ∷ 0 ∷ 1 ∷ 1 ∷ 9 ∷ 0 ∷ 0 ∷ 9 ∷ 0 ∷ 3 ∷ 80 ∷ [])
     ∷ (2 ∷ 1 ∷ 100 ∷ 3 ∷ 2 ∷ 3 ∷ 2 ∷ 0 ∷ 1 ∷ 0 ∷ 0 ∷ 1 ∷ 7 ∷ 0 ∷ 0 ∷ 8 ∷ 0 ∷ 0 ∷ 0 ∷ [])
+    -- Seen
     ∷ replicate groupWidth 0
     ∷ replicate groupWidth 0
     ∷ (1 ∷ 1 ∷ 2 ∷ 1 ∷ 1 ∷ 1 ∷ 1 ∷ 0 ∷ 2 ∷ 0 ∷ 1 ∷ 0 ∷ 0 ∷ 0 ∷ 0 ∷ 1 ∷ 0 ∷ 0 ∷ 0 ∷ [])
     ∷ [])
+    -- a method: conversion; b, c, e, f (sign, size each); verbal table
     ∷ ((20 ∷ 0 ∷ 10 ∷ 0 ∷ 400 ∷ 0 ∷ 0 ∷ 0 ∷ 5 ∷ 0 ∷ []) ∷ (22 ∷ 0 ∷ 0 ∷ 0 ∷ 0 ∷ 0 ∷ 0 ∷ 0 ∷ 0 ∷ 1 ∷ []) ∷ (21 ∷ 0 ∷ 20 ∷ 0 ∷ 30 ∷ 0 ∷ 5 ∷ 0 ∷ 70 ∷ 0 ∷ []) ∷ [])
+    -- a verbal table: its first entry, how many, its default text
     ∷ ((0 ∷ 2 ∷ 460 ∷ 464 ∷ []) ∷ [])
+    -- an entry: sign, size, its text
     ∷ ((0 ∷ 0 ∷ 433 ∷ 438 ∷ []) ∷ (0 ∷ 1 ∷ 441 ∷ 445 ∷ []) ∷ [])
     ∷ []
 

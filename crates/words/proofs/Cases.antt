@@ -50,6 +50,19 @@ module _ (k : ℕ) where
 
 pub ruleset kinds = (kind-1, kind-2, kind-3, kind-4, kind-5, kind-6, kind-0, needs)
 
+-- a length that no arm before has, and one that no word has
+past : (n m : ℕ) → m ≤ n → (n ≡ m → ⊥) → m + 1 ≤ n
+past n m h d = omega arith
+
+pub past-singles : (n : ℕ) → 5 ≤ n → (n ≡ 5 → ⊥) → (n ≡ 6 → ⊥) → (n ≡ 7 → ⊥) → (n ≡ 8 → ⊥) → (n ≡ 9 → ⊥) → (n ≡ 10 → ⊥) → (n ≡ 11 → ⊥) → (n ≡ 12 → ⊥) → (n ≡ 13 → ⊥) → (n ≡ 14 → ⊥) → 15 ≤ n
+past-singles n h a b c d e f g i j = past n 14 (past n 13 (past n 12 (past n 11 (past n 10 (past n 9 (past n 8 (past n 7 (past n 6 (past n 5 h a) b) c) d) e) f) g) i) j)
+
+pub past-all : (s : List ℕ) (from n : ℕ) → from + n ≤ length s → 28 < n → kindOf 0 ≡ classOf (take n (drop from s))
+unfolding kindOf
+past-all s from n h l = sym (longest (take n (drop from s)) (simp (length-take, length-drop) (omega arith)))
+
+pub ruleset numbers = (past-singles, past-all, needs)
+
 -- the class between two places, by the tests that the code makes
 module _ (s : List ℕ) (from to : ℕ) where
   pub class-back : to < from → unlisted ≡ classAt s from to
@@ -61,17 +74,11 @@ module _ (s : List ℕ) (from to : ℕ) where
   class-past h = rw (lt-leb to (length s) h, and-false)
 
   module _ (h : from ≤ to) (g : to ≤ length s) where
-    pub class-here : (k : Kind) → k ≡ classOf (take (to - from) (drop from s)) → k ≡ classAt s from to
-    unfolding classAt
-    class-here k e = rw (le-leb from to h, le-leb to (length s) g, e)
-
-    pub class-long : 28 < to - from → unlisted ≡ classAt s from to
-    class-long l = class-here unlisted (sym (longest (take (to - from) (drop from s)) (simp (length-take, length-drop) (omega arith))))
-
     pub class-in : from + (to - from) ≤ length s
     class-in = omega arith
 
     pub class-is : (k : Kind) (r : ℕ) → k ≡ kindOf r → kindOf r ≡ classOf (take (to - from) (drop from s)) → k ≡ classAt s from to
-    class-is k r e f = class-here k (e ∙ f)
+    unfolding classAt
+    class-is k r e f = rw (le-leb from to h, le-leb to (length s) g, e) f
 
-pub ruleset classes = (class-back, class-past, class-long, class-in, class-is, needs)
+pub ruleset classes = (class-back, class-past, class-in, class-is, needs)

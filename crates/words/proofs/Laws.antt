@@ -1,11 +1,11 @@
 -- What callers need to know of the words: a class goes by the bytes alone, none stands twice, and a code belongs to one word.
-use Prim.Native.Nat.{ℕ, _-_, _<_, _≤_}
+use Prim.Native.Nat.{ℕ, zero, suc, _+_, _*_, _-_, _^_, _<_, _≤_}
 use native.Mathlib.Omega.{arith}
-use mathlib.Core.Path.{_≡_, refl, sym, _∙_}
+use mathlib.Core.Path.{_≡_, refl, sym, _∙_, ap}
 use mathlib.Core.List.{List, [], _∷_}
 use mathlib.Core.Bool.{Bool, true, false, cond, not, _&&_, _||_, or-true}
-use borrow.Author.Tests.{eqb-true, eq-eqb, ne-eqb, le-leb}
-use lib.Dec.{eqb}
+use borrow.Author.Tests.{leb-true, eqb-true, eq-eqb, ne-eqb, le-leb}
+use lib.Dec.{eqb, leb}
 use lib.ListN.{length, take, drop}
 use Rattle.words.specs.Kind.{Kind, unlisted, keywordCode, choiceCode}
 use Rattle.words.specs.Row.{Row, row, word, bytes, same, kindIn}
@@ -27,20 +27,6 @@ unfoldable pub once : List Row → Bool
 once [] = true
 once (row v k ∷ rs) = not (stands v rs) && once rs
 
--- no word stands twice
-pub words-once : once wordRows ≡ true
-unfolding once stands same wordRows word bytes
-words-once = refl
-
--- whether a code, by a reading f of the kinds, stands in rows; and whether none above 0 stands twice
-unfoldable pub codeStands : (Kind → ℕ) → ℕ → List Row → Bool
-codeStands f c [] = false
-codeStands f c (row v k ∷ rs) = eqb (f k) c || codeStands f c rs
-
-unfoldable pub codesOnce : (Kind → ℕ) → List Row → Bool
-codesOnce f [] = true
-codesOnce f (row v k ∷ rs) = (eqb (f k) 0 || not (codeStands f (f k) rs)) && codesOnce f rs
-
 -- words that the test calls the same are the same
 same-is : (v w : List ℕ) → same v w ≡ true → v ≡ w
 unfolding same
@@ -51,6 +37,51 @@ same-is (a ∷ v) (b ∷ w) h =
     let p = both (eqb a b) (same v w) h in
     let x = eqb-true a b (p .0) in
     let y = same-is v w (p .1) in cc
+
+-- a word's place in the order of the alphabet: its first m bytes as one number
+unfoldable rank : ℕ → List ℕ → ℕ
+rank zero v = 0
+rank (suc m) [] = 0
+rank (suc m) (a ∷ v) = a * 256 ^ m + rank m v
+
+-- whether the words of rows are in that order, the first one past k
+unfoldable ordered : ℕ → List Row → Bool
+ordered k [] = true
+ordered k (row v x ∷ rs) = leb (k + 1) (rank 28 v) && ordered (rank 28 v) rs
+
+neither : (a b : Bool) → (a ≡ true → ⊥) → b ≡ false → (a || b) ≡ false
+neither true b h e = absurd (h refl)
+neither false b h e = e
+
+-- a word up to k stands in none of them
+before-all : (k : ℕ) (rs : List Row) (w : List ℕ) → ordered k rs ≡ true → rank 28 w ≤ k → stands w rs ≡ false
+unfolding ordered stands
+before-all k [] w t h = refl
+before-all k (row v x ∷ rs) w t h =
+    let p = both (leb (k + 1) (rank 28 v)) (ordered (rank 28 v) rs) t in
+    let l = leb-true (k + 1) (rank 28 v) (p .0) in
+    neither (same v w) (stands w rs) (λ s. let e = ap (rank 28) (same-is v w s) in omega arith) (before-all (rank 28 v) rs w (p .1) (omega arith))
+
+ordered-once : (k : ℕ) (rs : List Row) → ordered k rs ≡ true → once rs ≡ true
+unfolding ordered once
+ordered-once k [] t = refl
+ordered-once k (row v x ∷ rs) t =
+    let p = both (leb (k + 1) (rank 28 v)) (ordered (rank 28 v) rs) t in
+    rw (before-all (rank 28 v) rs v (p .1) (omega arith), ordered-once (rank 28 v) rs (p .1))
+
+-- no word stands twice
+pub words-once : once wordRows ≡ true
+unfolding ordered rank wordRows word bytes
+words-once = ordered-once 0 wordRows refl
+
+-- whether a code, by a reading f of the kinds, stands in rows; and whether none above 0 stands twice
+unfoldable pub codeStands : (Kind → ℕ) → ℕ → List Row → Bool
+codeStands f c [] = false
+codeStands f c (row v k ∷ rs) = eqb (f k) c || codeStands f c rs
+
+unfoldable pub codesOnce : (Kind → ℕ) → List Row → Bool
+codesOnce f [] = true
+codesOnce f (row v k ∷ rs) = (eqb (f k) 0 || not (codeStands f (f k) rs)) && codesOnce f rs
 
 module _ (f : Kind → ℕ) (zero-out : f unlisted ≡ 0) (c : ℕ) (some : 0 < c) where
   -- a code that a word has stands in the rows

@@ -31,6 +31,11 @@ unfolding sought made kindIn kindOf
 found w n words [] = refl
 found w n words (c ∷ cs) = kind-turn (same (take n words) w) c (sought w n (drop n words) cs) (kindIn (made n (drop n words) cs) w) (found w n (drop n words) cs)
 
+-- the search in the rows of a length finds the kind of a word of that length
+found-of : (n : ℕ) (words cs w : List ℕ) → made n words cs ≡ ofLength n wordRows → length w ≡ n → kindOf (sought w n words cs) ≡ classOf w
+unfolding classOf
+found-of n words cs w t l = found w n words cs ∙ ap (λ (rs : List Row). kindIn rs w) t ∙ among n wordRows w l
+
 -- two tables by length that are the same, as computed, are the same at each length
 unfoldable pub upTo : ℕ → (ℕ → List Row) → List (List Row)
 upTo zero f = []
@@ -93,7 +98,6 @@ pub ruled : (first k : ℕ) (words classes before shorter : List ℕ) → length
     rising k before (length words) ≡ true → rising k shorter (length classes) ≡ true → stepping first k before shorter ≡ true →
     upTo k (λ (i : ℕ). made (first + i) (span before i words) (span shorter i classes)) ≡ upTo k (λ (i : ℕ). ofLength (first + i) wordRows) →
     Ruled first words classes before shorter
-unfolding classOf
 ruled first k words classes before shorter l o m p q e t = record {
   indexed = o;
   few = m;
@@ -101,11 +105,15 @@ ruled first k words classes before shorter l o m p q e t = record {
   in-classes = λ i h. rise shorter (length classes) k q i (omega arith);
   wide = λ i h. step first before shorter k e i (omega arith);
   right = λ i h w x.
-      found w (first + i) (span before i words) (span shorter i classes)
-      ∙ ap (λ (rs : List Row). kindIn rs w)
-      (at-length k (λ (j : ℕ). made (first + j) (span before j words) (span shorter j classes)) (λ (j : ℕ). ofLength (first + j) wordRows) t i (omega arith))
-      ∙ among (first + i) wordRows w x;
+      found-of (first + i) (span before i words) (span shorter i classes) w
+      (at-length k (λ (j : ℕ). made (first + j) (span before j words) (span shorter j classes)) (λ (j : ℕ). ofLength (first + j) wordRows) t i (omega arith)) x;
 }
+
+-- a table of the words of one length
+pub alone : (m : ℕ) (words classes s : List ℕ) (from n r : ℕ) → made m words classes ≡ ofLength m wordRows → n ≡ m → from + n ≤ length s → r ≡ sought (take n (drop from s)) n words classes → kindOf r ≡ classOf (take n (drop from s))
+alone m words classes s from n r t e f x =
+    let l : length (take n (drop from s)) ≡ m = simp (length-take, length-drop) (omega arith) in
+    ap kindOf (x ∙ ap (λ (y : ℕ). sought (take n (drop from s)) y words classes) e) ∙ found-of m words classes (take n (drop from s)) t l
 
 -- what the code asks of its tables
 module _ (first : ℕ) (words classes before shorter : List ℕ) (i : ℕ) (q : Ruled first words classes before shorter) (h : i + 1 < length before) where

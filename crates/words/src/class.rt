@@ -1,6 +1,8 @@
 // The class of a word.
 ghost use mathlib.Core.Path.{_≡_};
-ghost use Rattle.words.specs.Class.{classAt};
+ghost use Prim.Native.Nat.{_+_, _≤_};
+ghost use lib.ListN.{length, take, drop};
+ghost use Rattle.words.specs.Class.{classOf, classAt};
 ghost use Rattle.words.specs.Told.{toldClass};
 ghost use Rattle.words.specs.Inner.{kindOf};
 use crate::kinds::CODES;
@@ -10,16 +12,21 @@ use crate::kinds::SKIPPED_PLAIN;
 use crate::kinds::TAKEN_BLOCK;
 use crate::kinds::TAKEN_CHOICE;
 use crate::kinds::TAKEN_PLAIN;
-use crate::long;
-use crate::middle;
-use crate::short;
-
-// The longest of the short words, of the middle words, and of all.
-const SHORT: usize = 8;
-
-const MIDDLE: usize = 12;
-
-const LONGEST: usize = 28;
+use crate::kinds::UNLISTED;
+use crate::of_0_to_4;
+use crate::of_5;
+use crate::of_6;
+use crate::of_7;
+use crate::of_8;
+use crate::of_9;
+use crate::of_10;
+use crate::of_11;
+use crate::of_12;
+use crate::of_13;
+use crate::of_14;
+use crate::of_15_to_16;
+use crate::of_17_to_18;
+use crate::of_19_to_28;
 
 // What document 01 does with a word, with its code.
 pub enum Class {
@@ -48,6 +55,30 @@ fn class_from(k: u16) -> Class
     }
 }
 
+// The number that stands for the kind of the n bytes from a place on, looked for among the words of their length.
+fn number_of(s: &[u8], from: usize, n: usize) -> u16
+    requires { ⌜ from + n ≤ length (now s) ⌝ }
+    ensures { λ r. ⌜ kindOf r ≡ classOf (take n (drop from (now (s .entry)))) ⌝ }
+{
+    match n {
+        0..=4 => of_0_to_4::number_of(s, from, n),
+        5 => of_5::number_of(s, from, n),
+        6 => of_6::number_of(s, from, n),
+        7 => of_7::number_of(s, from, n),
+        8 => of_8::number_of(s, from, n),
+        9 => of_9::number_of(s, from, n),
+        10 => of_10::number_of(s, from, n),
+        11 => of_11::number_of(s, from, n),
+        12 => of_12::number_of(s, from, n),
+        13 => of_13::number_of(s, from, n),
+        14 => of_14::number_of(s, from, n),
+        15..=16 => of_15_to_16::number_of(s, from, n),
+        17..=18 => of_17_to_18::number_of(s, from, n),
+        19..=28 => of_19_to_28::number_of(s, from, n),
+        _ => UNLISTED,
+    }
+}
+
 // The class of the bytes between two places.
 pub fn class_of(s: &[u8], from: usize, to: usize) -> Class
     ensures { λ r. ⌜ toldClass r ≡ classAt (now (s .entry)) from to ⌝ }
@@ -58,15 +89,5 @@ pub fn class_of(s: &[u8], from: usize, to: usize) -> Class
     if s.len() < to {
         return Class::Unlisted;
     }
-    let n = to - from;
-    if n <= SHORT {
-        return class_from(short::number_of(s, from, n));
-    }
-    if n <= MIDDLE {
-        return class_from(middle::number_of(s, from, n));
-    }
-    if n <= LONGEST {
-        return class_from(long::number_of(s, from, n));
-    }
-    Class::Unlisted
+    class_from(number_of(s, from, to - from))
 }

@@ -23,7 +23,7 @@ fn is_same(s: &[u8], from: usize, words: &[u8], at: usize, n: usize) -> bool
 }
 
 // The number beside the first of the words, each of n bytes, that stands at a place of s.
-fn seek(s: &[u8], from: usize, n: usize, words: &[u8], classes: &[u16]) -> u16
+pub fn seek(s: &[u8], from: usize, n: usize, words: &[u8], classes: &[u16]) -> u16
     requires { ⌜ (from + n ≤ length (now s)) × (length (now words) ≡ n * length (now classes)) ⌝ }
     ensures { λ r. ⌜ r ≡ sought (take n (drop from (now (s .entry)))) n (now (words .entry)) (now (classes .entry)) ⌝ }
 {

@@ -1,7 +1,7 @@
--- The middle words: `number_of` meets its contract, since the tables keep the rule, which antt computes.
+-- Words of 15 to 16 bytes: `number_of` meets its contract, since the tables keep the rule, which antt computes.
 use borrow.Author.Needs.{needs}
-use Rattle.words.proofs.middle.number_of.Statement.{statement}
-use Rattle.words.proofs.middle.number_of.Tie as tie
+use Rattle.words.proofs.of_15_to_16.number_of.Statement.{statement}
+use Rattle.words.proofs.of_15_to_16.number_of.Tie as tie
 use Prim.Native.Nat.{_+_, _-_, _<_}
 use mathlib.Core.Path.{refl}
 use native.Mathlib.Omega.{arith}
@@ -15,8 +15,8 @@ number-in-requires : tie.Need-number-in-requires
 unfolding rising stepping upTo made ofLength wordRows word bytes kindOf
 number-in-requires c κs =
     let a = c .before .before .before .before .before .pre in
-    let l : c .before .before .before .before .before .args .n - 9 + 1 < 5 = omega arith in
-    (a .0, (omega arith, (l, ruled 9 4 _ _ _ _ refl refl (omega arith) refl refl refl refl)))
+    let l : c .before .before .before .before .before .args .n - 15 + 1 < 3 = omega arith in
+    (a .0, (omega arith, (l, ruled 15 2 _ _ _ _ refl refl (omega arith) refl refl refl refl)))
 
 pub number-of-spec : {M : Type 1} → statement M
 number-of-spec =

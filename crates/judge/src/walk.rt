@@ -242,15 +242,15 @@ fn place_next(image: &[u8], g: Ground, n: Need, s: Placed, p: Part) -> Placed
 }
 
 // Before any part: the object's address, and the points where no count is stored.
-fn started(g: Ground, n: Need) -> Placed
-    ensures { λ r. ⌜ (toldPlaced r ≡ given (start g n)) × (freeOf (toldPlaced r) < 2 ^ 32) ⌝ }
+fn started(g: Ground, n: Need) -> Reached
+    ensures { λ r. ⌜ (r ≡ start g n) × (r .free < 2 ^ 32) ⌝ }
 {
     let x = n.x;
     let y = n.y;
     let cx = points_of(x);
     let cy = points_of(y);
     let from = g.address as u64;
-    Placed::At(Reached {
+    Reached {
         free: from,
         any: false,
         places: Places {
@@ -262,11 +262,11 @@ fn started(g: Ground, n: Need) -> Placed
             cx: cx,
             cy: cy,
         },
-    })
+    }
 }
 
-// Each part in order of Position.
-fn place_in_order(image: &[u8], g: Ground, n: Need, l: Layout) -> Placed
+// The five parts put in order of Position and placed.
+fn place_sorted(image: &[u8], g: Ground, n: Need, l: Layout) -> Placed
     ensures { λ r. ⌜ toldPlaced r ≡ allPlaced g n (now (image .entry)) (given (start g n)) (inOrder (parts l)) ⌝ }
 {
     let o = in_order(l);
@@ -275,12 +275,33 @@ fn place_in_order(image: &[u8], g: Ground, n: Need, l: Layout) -> Placed
     let c = o.c;
     let d = o.d;
     let e = o.e;
-    let s = started(g, n);
+    let s = Placed::At(started(g, n));
     let s1 = place_next(image, g, n, s, a);
     let s2 = place_next(image, g, n, s1, b);
     let s3 = place_next(image, g, n, s2, c);
     let s4 = place_next(image, g, n, s3, d);
     place_next(image, g, n, s4, e)
+}
+
+// Each part in order of Position; a layout's only part, its values or its x points, stands at the object's address.
+fn place_in_order(image: &[u8], g: Ground, n: Need, l: Layout) -> Placed
+    ensures { λ r. ⌜ toldPlaced r ≡ allPlaced g n (now (image .entry)) (given (start g n)) (inOrder (parts l)) ⌝ }
+{
+    let v = l.values;
+    let x = l.x;
+    if (v.present & x.present) | l.y.present | l.nx.present | l.ny.present {
+        return place_sorted(image, g, n, l);
+    }
+    let s = started(g, n);
+    if v.present {
+        let t = shape_of(v.kind);
+        return Placed::At(place_values(s, s.free, t.bytes));
+    }
+    if x.present {
+        let t = shape_of(x.kind);
+        return Placed::At(place_x(s, s.free, t.bytes));
+    }
+    Placed::At(s)
 }
 
 // Where each part of an object stands: its layout judged, then its counts.

@@ -1,5 +1,7 @@
 -- Laws that belong to no one function.
 pub mod Orders
+pub mod Absent
+pub mod OnePart
 pub mod Rises
 pub mod Aligns
 pub mod Counts

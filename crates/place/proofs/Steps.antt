@@ -103,15 +103,15 @@ module _ (at bytes : ℕ) (s : Reached) (c : Counted) where
 pub ruleset counts-placed = (count-x-of, count-y-of, count-x-no, count-y-no, count-near, needs)
 
 pub start-is : (g : Ground) (n : Need) (x y : ℕ) → x ≡ pointsOf (n .x) → y ≡ pointsOf (n .y)
-    → given (record { free = g .address; any = false; places = record { values = 0; x = 0; y = 0; nx = 0; ny = 0; cx = x; cy = y } }) ≡ given (start g n)
+    → record { free = g .address; any = false; places = record { values = 0; x = 0; y = 0; nx = 0; ny = 0; cx = x; cy = y } } ≡ start g n
 unfolding start
 start-is g n x y e f = rw (e, f)
 
 pub ruleset started = (start-is, needs)
 
 module _ (g : Ground) (n : Need) (image : List ℕ) (l : Layout) where
-  pub in-turn : (a b c d z : Part) → a ∷ b ∷ c ∷ d ∷ z ∷ [] ≡ inOrder (parts l) → (o p q r s u : Answer Reached)
-      → o ≡ given (start g n) → p ≡ step g n image o a → q ≡ step g n image p b → r ≡ step g n image q c → s ≡ step g n image r d → u ≡ step g n image s z
+  pub in-turn : (a b c d z : Part) → a ∷ b ∷ c ∷ d ∷ z ∷ [] ≡ inOrder (parts l) → (o : Reached) (p q r s u : Answer Reached)
+      → o ≡ start g n → p ≡ step g n image (given o) a → q ≡ step g n image p b → r ≡ step g n image q c → s ≡ step g n image r d → u ≡ step g n image s z
       → u ≡ allPlaced g n image (given (start g n)) (inOrder (parts l))
   unfolding allPlaced
   in-turn a b c d z m o p q r s u i v w x y k = rw (← m, k, y, x, w, v, i)

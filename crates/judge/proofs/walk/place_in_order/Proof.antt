@@ -1,6 +1,6 @@
 -- `judge::walk::place_in_order` meets its contract. Assumes nothing.
 use borrow.Author.Needs.{needs}
-use Rattle.place.proofs.Steps.{in-turn}
+use Rattle.place.proofs.OnePart.{only}
 use Rattle.judge.proofs.walk.place_in_order.Statement.{statement}
 use Rattle.judge.proofs.walk.place_in_order.Tie as tie
 
@@ -9,10 +9,12 @@ place-in-order-spec =
     tie.close
     (tie.spec
     (λ c κs. search needs)
+    (λ c. search needs)
     (λ c κs. search needs)
     (λ c κs. search needs)
+    (λ c κs. search only)
+    (λ c. search only)
     (λ c κs. search needs)
-    (λ c κs. search needs)
-    (λ c κs. search needs)
-    (λ c κs. search needs)
-    (λ c. in-turn _ _ _ _ _ _ _ _ _ (c .before .before .before .before .before .before .before .before .before .before .before .in-order .ensures) _ _ _ _ _ _ (c .before .before .before .before .before .started .ensures .0) (c .before .before .before .before .place-next .ensures .0) (c .before .before .before .place-next2 .ensures .0) (c .before .before .place-next3 .ensures .0) (c .before .place-next4 .ensures .0) (c .place-next5 .ensures .0)))
+    (λ c κs. search only)
+    (λ c. search only)
+    (λ c. search only))

@@ -82,9 +82,10 @@ module _ (t : List ℕ) (j : ℕ) (c : Section) (p : c ≡ sectionIn sections j)
 pub current-is : (t : List ℕ) (j k n b v : ℕ) → n ≡ countIn t (sectionIn sections j) → b ≡ n - 1 → v ≡ slotIn t (sectionIn sections j) b k → v ≡ current (viewIn t) j k
 current-is t j k n b v p q r = rw (r, q, p)
 
-pub decimal-is : (t : List ℕ) (j i k s w p q : ℕ) → s ≡ slotIn t (sectionIn sections j) i k → w ≡ slotIn t (sectionIn sections j) i (k + 1) → p ≡ slotIn t (sectionIn sections j) i (k + 2) → q ≡ min p 7
+-- c is what `section_of` gave
+pub decimal-is : (t : List ℕ) (j i k : ℕ) (c : Section) (s w p q : ℕ) → c ≡ sectionIn sections j → s ≡ slotIn t c i k → w ≡ slotIn t c i (k + 1) → p ≡ slotIn t c i (k + 2) → q ≡ min p 7
     → _≡_ {A = Scaled} (record { negative = eqb s 1; whole = w; tens = q }) (decimalSlots (viewIn t) j i k)
-decimal-is t j i k s w p q a b c d = rw (a, b, d, c)
+decimal-is t j i k c s w p q z a b d e = rw (a, b, e, d, z)
 
 pub ruleset decimal-views = (decimal-is, needs)
 

@@ -93,10 +93,11 @@ fn power_of(n: u64) -> u32
 pub fn decimal_slots(t: &[u64], j: u8, i: u16, k: u8) -> Decimal
     ensures { λ r. ⌜ scaled r ≡ decimalSlots (viewIn (now (t .entry))) j i k ⌝ }
 {
+    let c = section_of(j);
     let at = k as u16;
-    let sign = slot_of(t, j, i, at);
-    let whole = slot_of(t, j, i, at + 1);
-    let power = slot_of(t, j, i, at + 2);
+    let sign = records::slot(t, c, i, at);
+    let whole = records::slot(t, c, i, at + 1);
+    let power = records::slot(t, c, i, at + 2);
     Decimal {
         negative: sign == 1,
         whole,

@@ -5,32 +5,23 @@ use tables::form::OBJECT;
 use tables::form::count_of;
 use tables::form::slot_of;
 use text::bytes::byte_at;
+use text::bytes::is_like;
+use text::bytes::one_before;
 ghost use mathlib.Core.Path.{_≡_};
-ghost use mathlib.Core.Bool.{_&&_};
-ghost use Prim.Native.Nat.{_-_};
-ghost use lib.Dec.{leb, eqb};
 ghost use lib.ListN.{length};
 ghost use Rattle.number.specs.Answer.{given};
 ghost use Rattle.tables.specs.Form.{objectSection, tablesIn};
 ghost use Rattle.look.specs.Calls.{lentOf, searchFrom, searched};
 ghost use Rattle.look.specs.Told.{toldSearch};
 
-// Whether the bytes between two places are so many.
-fn are_as_many(from: usize, to: usize, n: usize) -> bool
-    ensures { λ r. ⌜ r ≡ (leb from to && leb 0 n && eqb (to - from) (n - 0)) ⌝ }
-{
-    if to < from {
-        return false;
-    }
-    to - from == n
-}
-
-// The first object that bears a name.
+// The first object that bears a name; names are compared from their last byte backward.
 fn find(x: &[u8], t: &[u64], name: &[u8]) -> SearchAnswer
     ensures { λ r. ⌜ toldSearch r ≡ given (searchFrom (tablesIn (now (t .entry)) .counts objectSection) (now (x .entry)) (tablesIn (now (t .entry))) (now (name .entry)) 0) ⌝ }
 {
     let count = count_of(t, OBJECT);
     let n = name.len();
+    let first = byte_at(name, 0);
+    let last = byte_at(name, one_before(n));
     let mut i: u16 = 0;
     'objects: loop {
         if count <= i {
@@ -38,16 +29,19 @@ fn find(x: &[u8], t: &[u64], name: &[u8]) -> SearchAnswer
         }
         let from = slot_of(t, OBJECT, i, 0) as usize;
         let to = slot_of(t, OBJECT, i, 1) as usize;
-        if are_as_many(from, to, n) {
-            let mut k: usize = 0;
+        if is_like(x, from, to, n, last) {
+            let mut k = n;
             loop {
-                if n <= k {
+                if k == 0 {
                     break 'objects SearchAnswer::At(i);
                 }
+                if byte_at(x, from) != first {
+                    break;
+                }
+                k -= 1;
                 if byte_at(x, from + k) != byte_at(name, k) {
                     break;
                 }
-                k += 1;
             }
         }
         i += 1;

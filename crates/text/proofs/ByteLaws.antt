@@ -3,9 +3,8 @@ use Prim.Native.Nat.{ℕ, zero, suc, _+_, _-_, _<_, _≤_}
 use Prim.Native.Char.{code}
 use mathlib.Core.Path.{_≡_, refl, sym, _∙_, ap}
 use mathlib.Core.List.{List}
-use mathlib.Core.Bool.{Bool, true, false, not, _&&_, _||_, and-false}
+use mathlib.Core.Bool.{Bool, true, false, not, _&&_, _||_, and-false, and-true, and-assoc}
 use native.Mathlib.Omega.{arith}
-use native.Mathlib.Numerals.{add-one}
 use borrow.Author.Tests.{eq-eqb, ne-eqb, le-ltb, lt-ltb, le-leb, lt-leb}
 use borrow.Author.Needs.{needs}
 use lib.ListN.{length, getD, List·getD-eq-default}
@@ -42,11 +41,15 @@ module _ (b : ℕ) where
   unfolding inName
   in-name-is l d p q = rw (p, q)
 
+  pub in-name-letter : (l : Bool) → l ≡ isLetter b → l ≡ true → true ≡ inName b
+  unfolding inName startsName
+  in-name-letter l p t = rw (sym p ∙ t)
+
   pub starts-number-is : (d : Bool) → d ≡ isDigit b → (d || eqb b 43 || eqb b 45 || eqb b 46) ≡ startsNumber b
   unfolding startsNumber
   starts-number-is d q = rw q
 
-pub ruleset byte-classes = (blank-is, allowed-is, letter-is, digit-is, starts-name-is, in-name-is, starts-number-is, needs)
+pub ruleset byte-classes = (blank-is, allowed-is, letter-is, digit-is, starts-name-is, in-name-is, in-name-letter, starts-number-is, needs)
 
 pub byte-past : (s : List ℕ) (k : ℕ) → length s ≤ k → 0 ≡ byte s k
 byte-past s k h = sym (List·getD-eq-default s 0 h)
@@ -76,37 +79,45 @@ inner-is b r p = rw p
 
 pub ruleset inners = (inner-is, needs)
 
--- the loop of `same_part`: the n bytes are the same exactly if those from i on are
-pub record SameFrom (s : List ℕ) (k : ℕ) (w : List ℕ) (j n i : ℕ) : Type 0 where
+-- one byte more at the end
+pub same-last : (m : ℕ) (s : List ℕ) (k : ℕ) (w : List ℕ) (j : ℕ) → sameFor (suc m) s k w j ≡ (sameFor m s k w j && eqb (byte s (k + m)) (byte w (j + m)))
+unfolding sameFor
+same-last zero s k w j = let p : k + 0 ≡ k = omega arith in let q : j + 0 ≡ j = omega arith in rw (p, q, and-true (eqb (byte s k) (byte w j)))
+same-last (suc m) s k w j =
+    let p : suc k + m ≡ k + suc m = omega arith in
+    let q : suc j + m ≡ j + suc m = omega arith in
+    rw (same-last m s (suc k) w (suc j), p, q, and-assoc (eqb (byte s k) (byte w j)) (sameFor m s (suc k) w (suc j)) (eqb (byte s (k + suc m)) (byte w (j + suc m))))
+
+-- the loop backward from the last of n bytes: all that is asked of them, b, is whether the first i are the same
+pub record SameBack (s : List ℕ) (k : ℕ) (w : List ℕ) (j n : ℕ) (b : Bool) (i : ℕ) : Type 0 where
   pub within : i ≤ n
-  pub same : sameFor (n - i) s (k + i) w (j + i) ≡ sameFor n s k w j
+  pub same : sameFor i s k w j ≡ b
 
 module _ (s : List ℕ) (k : ℕ) (w : List ℕ) (j n : ℕ) where
-  pub same-start : SameFrom s k w j n 0
-  same-start = record { within = omega arith; same = let p : n - 0 ≡ n = omega arith in let q : k + 0 ≡ k = omega arith in let r : j + 0 ≡ j = omega arith in rw (p, q, r) }
+  pub same-start : SameBack s k w j n (sameFor n s k w j) n
+  same-start = record { within = omega arith; same = refl }
 
-  -- one more byte
-  one-more : (m p q : ℕ) → sameFor (suc m) s p w q ≡ (eqb (byte s p) (byte w q) && sameFor m s (suc p) w (suc q))
-  unfolding sameFor
-  one-more m p q = refl
+  module _ (b : Bool) (i : ℕ) (h : SameBack s k w j n b i) where
+    module _ (lt : 0 < i) where
+      step : b ≡ (sameFor (i - 1) s k w j && eqb (byte s (k + (i - 1))) (byte w (j + (i - 1))))
+      step = let m : i ≡ suc (i - 1) = omega arith in sym (h .same) ∙ ap (λ z. sameFor z s k w j) m ∙ same-last (i - 1) s k w j
 
-  module _ (i : ℕ) (h : SameFrom s k w j n i) (lt : i < n) where
-    step : sameFor n s k w j ≡ (eqb (byte s (k + i)) (byte w (j + i)) && sameFor (n - (i + 1)) s (k + (i + 1)) w (j + (i + 1)))
-    step =
-        let m : n - i ≡ suc (n - (i + 1)) = omega arith in
-        let p : suc (k + i) ≡ k + (i + 1) = omega arith in
-        let q : suc (j + i) ≡ j + (i + 1) = omega arith in
-        sym (h .same) ∙ rw (m, one-more (n - (i + 1)) (k + i) (j + i), p, q)
+      pub same-on : (c d : ℕ) → c ≡ byte s (k + (i - 1)) → d ≡ byte w (j + (i - 1)) → c ≡ d → SameBack s k w j n b (i - 1)
+      same-on c d p q e = record { within = omega (arith, h .within); same = sym (step ∙ rw (eq-eqb (byte s (k + (i - 1))) (byte w (j + (i - 1))) (sym p ∙ e ∙ q), and-true (sameFor (i - 1) s k w j))) }
 
-    pub same-on : (a b : ℕ) → a ≡ byte s (k + i) → b ≡ byte w (j + i) → a ≡ b → SameFrom s k w j n (i + 1)
-    same-on a b p q e = record { within = omega arith; same = sym (step ∙ rw (eq-eqb (byte s (k + i)) (byte w (j + i)) (sym p ∙ e ∙ q))) }
+      pub same-differs : (c d : ℕ) → c ≡ byte s (k + (i - 1)) → d ≡ byte w (j + (i - 1)) → (c ≡ d → ⊥) → false ≡ b
+      same-differs c d p q e = sym (step ∙ rw (ne-eqb (byte s (k + (i - 1))) (byte w (j + (i - 1))) (λ x. e (p ∙ x ∙ sym q)), and-false (sameFor (i - 1) s k w j)))
 
-    pub same-differs : (a b : ℕ) → a ≡ byte s (k + i) → b ≡ byte w (j + i) → (a ≡ b → ⊥) → false ≡ sameFor n s k w j
-    same-differs a b p q e = sym (step ∙ rw (ne-eqb (byte s (k + i)) (byte w (j + i)) (λ x. e (p ∙ x ∙ sym q))))
+      first : b ≡ (eqb (byte s k) (byte w j) && sameFor (i - 1) s (suc k) w (suc j))
+      unfolding sameFor
+      first = let m : i ≡ suc (i - 1) = omega arith in sym (h .same) ∙ ap (λ z. sameFor z s k w j) m
 
-  pub same-all : (i : ℕ) → SameFrom s k w j n i → n ≤ i → true ≡ sameFor n s k w j
-  unfolding sameFor
-  same-all i h le = let z : n - i ≡ 0 = omega arith in rw z at (h .same)
+      pub same-other : (c d : ℕ) → c ≡ byte s k → d ≡ byte w j → (c ≡ d → ⊥) → false ≡ b
+      same-other c d p q e = sym (first ∙ rw (ne-eqb (byte s k) (byte w j) (λ x. e (p ∙ x ∙ sym q))))
+
+    pub same-all : i ≤ 0 → true ≡ b
+    unfolding sameFor
+    same-all le = let z : i ≡ 0 = omega arith in rw z at (h .same)
 
 module _ (s : List ℕ) (k e : ℕ) (w : List ℕ) (j f : ℕ) where
   pub part-back : e < k → false ≡ samePart s k e w j f

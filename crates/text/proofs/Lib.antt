@@ -1,6 +1,7 @@
 pub mod Walks
 pub mod ByteLaws
 pub mod Within
+pub mod LikeLaws
 pub mod BlankLaws
 pub mod TokenLaws
 pub mod ItemLaws

@@ -1,8 +1,8 @@
 // Bytes of a text: single ones, two side by side, and a part that spells a word.
 ghost use mathlib.Core.Path.{_≡_};
-ghost use mathlib.Core.Bool.{_&&_, not};
-ghost use Prim.Native.Nat.{_+_, _<_, _^_};
-ghost use lib.Dec.{eqb};
+ghost use mathlib.Core.Bool.{_&&_, _||_, not};
+ghost use Prim.Native.Nat.{_+_, _-_, _<_, _^_};
+ghost use lib.Dec.{eqb, leb};
 ghost use Rattle.text.specs.Bytes.{byte, isBlank, isAllowed, isLetter, isDigit, startsName, inName, startsNumber, pairAt, sameFor, samePart};
 
 // The byte at a place, 0 past the end.
@@ -54,10 +54,13 @@ pub fn starts_name(b: u8) -> bool
     is_letter(b) | (b == b'_')
 }
 
-// Whether a name may go on with a byte.
+// Whether a name may go on with a byte; most of its bytes are letters.
 pub fn in_name(b: u8) -> bool
     ensures { λ r. ⌜ r ≡ inName b ⌝ }
 {
+    if is_letter(b) {
+        return true;
+    }
     starts_name(b) | is_digit(b) | (b == b'.') | (b == b'[') | (b == b']')
 }
 
@@ -85,16 +88,38 @@ pub fn pair_at(s: &[u8], at: usize, a: u8, b: u8) -> bool
     s[next] == b
 }
 
-// Whether n bytes of s from k on are those of w from j on.
+// The number before n, 0 before 0.
+pub fn one_before(n: usize) -> usize
+    ensures { λ r. ⌜ r ≡ n - 1 ⌝ }
+{
+    if n == 0 { 0 } else { n - 1 }
+}
+
+// Whether the bytes of s from k up to e are n, the last of them b.
+pub fn is_like(s: &[u8], k: usize, e: usize, n: usize, b: u8) -> bool
+    ensures { λ r. ⌜ r ≡ (leb k e && eqb (e - k) n && (eqb n 0 || eqb (byte (now (s .entry)) (e - 1)) b)) ⌝ }
+{
+    if e < k {
+        return false;
+    }
+    if e - k != n {
+        return false;
+    }
+    if n == 0 {
+        return true;
+    }
+    byte_at(s, e - 1) == b
+}
+
+// Whether n bytes of s from k on are those of w from j on, the last of them compared first.
 fn same_for(s: &[u8], k: usize, w: &[u8], j: usize, n: usize) -> bool
     requires { ⌜ (k + n < 2 ^ 64) × (j + n < 2 ^ 64) ⌝ }
     ensures { λ r. ⌜ r ≡ sameFor n (now (s .entry)) k (now (w .entry)) j ⌝ }
 {
-    let mut i: usize = 0;
-    while i < n {
-        if byte_at(s, k + i) == byte_at(w, j + i) {
-            i += 1;
-        } else {
+    let mut i = n;
+    while 0 < i {
+        i -= 1;
+        if byte_at(s, k + i) != byte_at(w, j + i) {
             return false;
         }
     }

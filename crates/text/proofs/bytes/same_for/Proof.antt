@@ -1,13 +1,13 @@
 use Rattle.text.proofs.bytes.same_for.Statement.{statement}
 use Rattle.text.proofs.bytes.same_for.Tie as tie
-use Rattle.text.proofs.ByteLaws.{SameFrom, sames}
-use Prim.Native.Nat.{_-_}
+use Rattle.text.specs.Bytes.{sameFor}
+use Rattle.text.proofs.ByteLaws.{SameBack, sames}
 
 abbrev Inv-loop : tie.InvT-loop
-Inv-loop s k w j n i₀ i = SameFrom s k w j n i
+Inv-loop s k w j n i₀ i = SameBack s k w j n (sameFor n s k w j) i
 
 abbrev μ-loop : tie.MeasureT-loop
-μ-loop s k w j n i₀ i = n - i
+μ-loop s k w j n i₀ i = i
 
 pub same-for-spec : {M : Type 1} → statement M
 same-for-spec =
@@ -17,10 +17,10 @@ same-for-spec =
     μ-loop
     (λ c. search sames)
     (λ c. search sames)
-    (λ c κs. search sames)
     (λ c. search sames)
     (λ c κs. search sames)
     (λ c. search sames)
+    (λ c κs. search sames)
     (λ c. search sames)
     (λ c. search sames)
     (λ c. search sames)

@@ -42,17 +42,24 @@ use text::cursor::Reach;
 use words::class::Class;
 use words::class::class_of;
 use words::codes::AXIS_DESCR;
+use words::codes::AXIS_PTS;
 use words::codes::CHARACTERISTIC;
+use words::codes::COMPU_METHOD;
+use words::codes::COMPU_VTAB;
 use words::codes::CURVE;
 use words::codes::MAP;
+use words::codes::MEASUREMENT;
+use words::codes::MOD_COMMON;
 use words::codes::MODULE;
 use words::codes::PROJECT;
+use words::codes::RECORD_LAYOUT;
 ghost use mathlib.Core.Path.{_≡_};
+ghost use Prim.Native.Nat.{_-_};
 ghost use lib.ListN.{length};
 ghost use Rattle.words.specs.Class.{classAt};
-ghost use Rattle.rows.specs.Rows.{needed};
+ghost use Rattle.rows.specs.Rows.{rows, needed};
 ghost use Rattle.grammar.specs.Move.{viewIn, moved};
-ghost use Rattle.grammar.specs.Keyword.{rowOf, mayStand, axesOf, limitOf, isOften, oneMore, counting, stands, plainRow, homeOf, bareWord, levelsIn, skips, opens, begunWord, isMet, allMet, ends, holderOf, closes, endedWord, item, afterBegin, afterEnd};
+ghost use Rattle.grammar.specs.Keyword.{rowFrom, rowOf, mayStand, axesOf, limitOf, isOften, oneMore, counting, stands, plainRow, homeOf, bareWord, levelsIn, skips, opens, begunWord, isMet, allMet, ends, holderOf, closes, endedWord, item, afterBegin, afterEnd};
 
 // No block: what stands before PROJECT. Any block: where the skipped keywords stand.
 const FILE: u8 = 0;
@@ -62,11 +69,42 @@ const ANY: u8 = 255;
 // A row that is refused as outside the scope.
 const OUTSIDE: u8 = 2;
 
+// A row of MODULE's that the row of the word w does not come before: the search from there on finds what the search from the first row finds.
+fn module_row(w: u8) -> u8
+    ensures { λ r. ⌜ rowFrom (length rows - r) r 2 w ≡ rowOf 2 w ⌝ }
+{
+    match w {
+        AXIS_PTS => 22,
+        CHARACTERISTIC => 25,
+        MEASUREMENT => 34,
+        _ => 0,
+    }
+}
+
+// A row that the row of the word w in the block b does not come before, the first of the block's rows as a rule.
+fn first_row(b: u8, w: u8) -> u8
+    ensures { λ r. ⌜ rowFrom (length rows - r) r b w ≡ rowOf b w ⌝ }
+{
+    match b {
+        MODULE => module_row(w),
+        MOD_COMMON => 3,
+        COMPU_METHOD => 8,
+        COMPU_VTAB => 12,
+        RECORD_LAYOUT => 14,
+        AXIS_PTS => 23,
+        CHARACTERISTIC => 26,
+        AXIS_DESCR => 31,
+        MEASUREMENT => 35,
+        ANY => 38,
+        _ => 0,
+    }
+}
+
 // The row of the word w in the block b; the row past all where there is none.
 fn row_of(b: u8, w: u8) -> u8
     ensures { λ r. ⌜ r ≡ rowOf b w ⌝ }
 {
-    let mut i: u8 = 0;
+    let mut i = first_row(b, w);
     while i < ROW_COUNT {
         if is_row(i, b, w) {
             return i;
@@ -261,6 +299,9 @@ fn begun_word(x: &[u8], t: &[u64], s: State, a: usize, e: usize) -> Move
 fn is_met(t: &[u64], b: u8, i: u8) -> bool
     ensures { λ r. ⌜ r ≡ isMet (viewIn (now (t .entry))) b i ⌝ }
 {
+    if need_cell(i, NEED_BLOCK) != b {
+        return true;
+    }
     let sec = need_cell(i, NEED_SEC);
     let when = need_cell(i, NEED_WHEN);
     let held = current_of(t, sec, when as u16);
@@ -268,7 +309,7 @@ fn is_met(t: &[u64], b: u8, i: u8) -> bool
     let high = need_cell(i, NEED_HIGH) as u64;
     let there = current_of(t, sec, need_cell(i, NEED_SLOT) as u16);
     let asked = (when == 0) | ((low <= held) & (held <= high));
-    (need_cell(i, NEED_BLOCK) != b) | !asked | (need_cell(i, NEED_LEAST) as u64 <= there)
+    !asked | (need_cell(i, NEED_LEAST) as u64 <= there)
 }
 
 // Whether all needs of the block b are met.

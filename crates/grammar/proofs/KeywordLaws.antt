@@ -271,11 +271,16 @@ pub ruleset begins = (begun-opens, begun-skips, begun-plain, begun-choice, begun
 
 -- ---- `/end`, and the word after it
 
-pub met-is : (v : View) (b i j w n l h o m k q : ℕ) → j ≡ needAt i .sec → w ≡ needAt i .when → n ≡ current v j w → l ≡ needAt i .low → h ≡ needAt i .high → o ≡ needAt i .slot → m ≡ current v j o → k ≡ needAt i .block → q ≡ needAt i .least
-    → (not (eqb k b) || not (eqb w 0 || leb l n && leb n h) || leb q m) ≡ isMet v b i
-met-is v b i j w n l h o m k q pj pw pn pl ph po pm pk pq = rw (pn, pm, pl, ph, po, pk, pq, pj, pw)
+-- k is the block of need i
+module _ (v : View) (b i k : ℕ) (pk : k ≡ needAt i .block) where
+  pub met-beside : (k ≡ b → ⊥) → true ≡ isMet v b i
+  met-beside h = rw (← pk, ne-eqb k b h)
 
-pub ruleset mets = (met-is, needs)
+  pub met-is : k ≡ b → (j w n l h o m q : ℕ) → j ≡ needAt i .sec → w ≡ needAt i .when → n ≡ current v j w → l ≡ needAt i .low → h ≡ needAt i .high → o ≡ needAt i .slot → m ≡ current v j o → q ≡ needAt i .least
+      → (not (eqb w 0 || leb l n && leb n h) || leb q m) ≡ isMet v b i
+  met-is e j w n l h o m q pj pw pn pl ph po pm pq = rw (pn, pm, pl, ph, po, pq, pj, pw, ← pk, eq-eqb k b e)
+
+pub ruleset mets = (met-beside, met-is, needs)
 
 -- whether the needs from i on are met is whether all are
 abbrev pub Meeting : View → ℕ → ℕ → Type 0

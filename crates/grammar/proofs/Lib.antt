@@ -3,5 +3,6 @@ pub mod NameLaws
 pub mod ParameterLaws
 pub mod Cells
 pub mod KeywordLaws
+pub mod Beginnings
 pub mod ReadLaws
 pub mod Examples

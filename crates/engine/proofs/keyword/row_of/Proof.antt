@@ -15,6 +15,7 @@ row-of-spec =
     (tie.spec
     Inv-loop
     μ-loop
+    (λ c κs. search rowings)
     (λ c. search rowings)
     (λ c κs. search rowings)
     (λ c. search rowings)

@@ -12,11 +12,13 @@ use lib.ListN.{length}
 use Rattle.rows.specs.Sections.{object, layout}
 use Rattle.rows.specs.Slots.{block-code, fnc-values-mode, bit-mask-seen, bit-mask}
 use Rattle.grammar.specs.Move.{View}
-use Rattle.place.specs.declared.order.Layout.{Layout}
+use Rattle.place.specs.Walk.{placement}
 use Rattle.place.specs.declared.rules.Need.{Need}
 use Rattle.place.specs.declared.walk.Places.{Places}
 use Rattle.tables.specs.Form.{groupSection}
-use Rattle.objects.specs.Object.{layoutNumber, layoutOf, firstOf, axisAt, needOf, placesOf}
+use Rattle.objects.specs.Object.{firstOf, basisOf, axisAt, needOf, placesIn, placesOf}
+use Rattle.objects.specs.declared.basis.Basis.{Basis}
+use Rattle.objects.proofs.ObjectLaws.{places-are}
 use Rattle.build.specs.Build.{flag, whatOf, ofObject, ofAxis, xSource, axisWalk, valuesWalk, maskOf, meaning, standingCells, counterCells, noPartCells, xPart, yPart, valuesPart, knownOf, xRow, yRow, valuesRow, groupsBelow}
 use Rattle.build.specs.Row.{rowIn, rowsIn, axisSpot}
 use Rattle.build.specs.declared.part.Known.{Known}
@@ -24,10 +26,11 @@ use Rattle.build.specs.declared.part.Source.{Source}
 use Rattle.build.specs.declared.part.Spot.{Spot}
 use Rattle.build.proofs.RowLaws.{length-rows, rows-on}
 
-pub known-is : (image : List ℕ) (base : ℕ) (x : List ℕ) (v : View) (i : ℕ) (n : Need) (l : Layout) (p : Places) (f : Bool) (k : ℕ) → n ≡ needOf image base x v i → l ≡ layoutOf x v i → p ≡ placesOf image base x v i → f ≡ firstOf v i → k ≡ layoutNumber x v i
-    → _≡_ {A = Known} (record { need = n; layout = l; places = p; first = f; number = k }) (knownOf image base x v i)
+-- o is what `basis_of` gave
+pub known-is : (image : List ℕ) (base : ℕ) (x : List ℕ) (v : View) (i : ℕ) (n : Need) (o : Basis) (p : Places) (f : Bool) → n ≡ needOf image base x v i → o ≡ basisOf x v base i → p ≡ placesIn (placement (o .ground) n image (o .layout)) → f ≡ firstOf v i
+    → _≡_ {A = Known} (record { need = n; layout = o .layout; places = p; first = f; number = o .number }) (knownOf image base x v i)
 unfolding knownOf
-known-is image base x v i n l p f k a b c d e = rw (a, b, c, d, e)
+known-is image base x v i n o p f a b c d = let e : p ≡ placesOf image base x v i = c ∙ places-are image base x v i o n b a in rw (a, b, e, d)
 
 pub ruleset knowns = (known-is, needs)
 

@@ -13,12 +13,11 @@ use grammar::view::LAYOUT;
 use grammar::view::OBJECT;
 use grammar::view::count_of;
 use grammar::view::slot_of;
+use objects::basis::basis_of;
 use objects::ground::first_of;
-use objects::layout::layout_number;
-use objects::layout::layout_of;
 use objects::need::axis_at;
 use objects::need::need_of;
-use objects::object::places_of;
+use objects::object::places_by;
 use rows::slots::AXIS_CONVERSION;
 use rows::slots::AXIS_LOWER_LIMIT;
 use rows::slots::AXIS_PTS_X_ORDER;
@@ -55,16 +54,16 @@ fn known_of(image: &[u8], base: u32, x: &[u8], t: &[u64], i: u16) -> Known
     ensures { λ r. ⌜ r ≡ knownOf (now (image .entry)) base (now (x .entry)) (viewIn (now (t .entry))) i ⌝ }
 {
     let need = need_of(image, base, x, t, i);
-    let layout = layout_of(x, t, i);
-    let places = places_of(image, base, x, t, i);
+    let basis = basis_of(x, t, base, i);
+    let layout = basis.layout;
+    let places = places_by(image, basis, need);
     let first = first_of(t, i);
-    let number = layout_number(x, t, i);
     Known {
         need,
         layout,
         places,
         first,
-        number,
+        number: basis.number,
     }
 }
 

@@ -7,10 +7,10 @@ use borrow.Author.Tests.{eq-eqb, ne-eqb}
 use lib.Dec.{eqb}
 use Rattle.rows.specs.Sections.{file, layout, object}
 use Rattle.rows.specs.Slots.{common-byte-order, common-alignment-byte, common-alignment-word, common-alignment-long, layout-alignment-byte, layout-alignment-word, layout-alignment-long, object-address, object-byte-order}
-use Rattle.grammar.specs.Move.{View}
+use Rattle.grammar.specs.Move.{View, viewIn}
 use Rattle.place.specs.declared.order.Aligns.{Aligns}
 use Rattle.place.specs.declared.walk.Ground.{Ground}
-use Rattle.objects.specs.Object.{layoutNumber, word, alignsOf, firstOf, groundOf}
+use Rattle.objects.specs.Object.{word, alignsOf, firstOf}
 
 -- w is the layout's own word
 module _ (v : View) (l k c w : ℕ) (p : w ≡ v .slots layout l k) where
@@ -36,9 +36,9 @@ module _ (v : View) (i w : ℕ) (p : w ≡ v .slots object i object-byte-order) 
   unfolding firstOf
   first-own h = rw (← p, ne-eqb w 0 h)
 
-pub ground-is : (x : List ℕ) (v : View) (base i at address l : ℕ) (first : Bool) (aligns : Aligns) → at ≡ v .slots object i object-address → address ≡ min at 4294967295 → first ≡ firstOf v i
-    → l ≡ layoutNumber x v i → aligns ≡ alignsOf v l → _≡_ {A = Ground} (record { address = address; base = base; first = first; aligns = aligns }) (groundOf x v base i)
-unfolding groundOf
-ground-is x v base i at address l first aligns pt pa pf pl pw = rw (pa, pt, pf, pw, pl)
+-- l is the number of the layout
+pub ground-is : (t : List ℕ) (base i at address l : ℕ) (first : Bool) (aligns : Aligns) → at ≡ viewIn t .slots object i object-address → address ≡ min at 4294967295 → first ≡ firstOf (viewIn t) i → aligns ≡ alignsOf (viewIn t) l
+    → _≡_ {A = Ground} (record { address = address; base = base; first = first; aligns = aligns }) (record { address = min (viewIn t .slots object i object-address) 4294967295; base = base; first = firstOf (viewIn t) i; aligns = alignsOf (viewIn t) l })
+ground-is t base i at address l first aligns pt pa pf pw = rw (pa, pt, pf, pw)
 
 pub ruleset grounds = (word-common, word-own, aligns-are, first-common, first-own, ground-is)

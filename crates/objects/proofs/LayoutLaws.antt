@@ -4,17 +4,16 @@ use mathlib.Core.Path.{_≡_, sym, _∙_, ap}
 use mathlib.Core.List.{List}
 use mathlib.Core.Bool.{Bool}
 use native.Mathlib.Omega.{arith}
-use borrow.Author.Tests.{eq-eqb, ne-eqb}
 use Rattle.cell.specs.Kind.{isType}
 use Rattle.rows.specs.Sections.{layout, object}
-use Rattle.rows.specs.Slots.{block-code, fnc-values-position, fnc-values-type, axis-pts-x-position, axis-pts-x-type, axis-pts-y-position, axis-pts-y-type, no-axis-pts-x-position, no-axis-pts-x-type, no-axis-pts-y-position, no-axis-pts-y-type, object-type, object-layout, object-layout-past}
+use Rattle.rows.specs.Slots.{fnc-values-position, fnc-values-type, axis-pts-x-position, axis-pts-x-type, axis-pts-y-position, axis-pts-y-type, no-axis-pts-x-position, no-axis-pts-x-type, no-axis-pts-y-position, no-axis-pts-y-type, object-layout, object-layout-past}
 use Rattle.grammar.specs.Move.{View}
 use Rattle.grammar.specs.Parameter.{find, foundAt}
 use Rattle.grammar.specs.declared.names.Found.{Found}
 use Rattle.grammar.specs.declared.names.Found.the-variants as found
 use Rattle.place.specs.declared.order.Entry.{Entry}
 use Rattle.place.specs.declared.order.Layout.{Layout}
-use Rattle.objects.specs.Object.{led, part, layoutAt, noEntry, measured, layoutNumber, layoutOf}
+use Rattle.objects.specs.Object.{led, part, layoutAt, noEntry, measured, layoutNumber}
 
 -- f is what `find` gave
 module _ (x : List ℕ) (v : View) (j a e : ℕ) (f : Found) (p : foundAt f ≡ find x v j a e) where
@@ -45,15 +44,3 @@ pub number-is : (x : List ℕ) (v : View) (i a e r : ℕ) → a ≡ v .slots obj
 number-is x v i a e r pa pe pr = pr ∙ rw (pa, pe)
 
 pub ruleset parts = (part-is, layout-is, measured-is, number-is)
-
--- c is the code of the object's word
-module _ (x : List ℕ) (v : View) (i c : ℕ) (p : c ≡ v .slots object i block-code) where
-  pub layout-measured : c ≡ 10 → (k : ℕ) (r : Layout) → k ≡ v .slots object i object-type → r ≡ measured k → r ≡ layoutOf x v i
-  unfolding layoutOf
-  layout-measured h k r pk pr = rw (← p, eq-eqb c 10 h, pr, pk)
-
-  pub layout-own : (c ≡ 10 → ⊥) → (l : ℕ) (r : Layout) → l ≡ layoutNumber x v i → r ≡ layoutAt v l → r ≡ layoutOf x v i
-  unfolding layoutOf
-  layout-own h l r pl pr = rw (← p, ne-eqb c 10 h, pr, pl)
-
-pub ruleset layouts = (layout-measured, layout-own)

@@ -1,6 +1,7 @@
 -- Laws that belong to no one function: by the branches that the code takes, and what follows where all objects are accepted.
 pub mod LayoutLaws
 pub mod GroundLaws
+pub mod BasisLaws
 pub mod NeedLaws
 pub mod ObjectLaws
 pub mod Shares

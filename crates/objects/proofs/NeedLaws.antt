@@ -9,14 +9,13 @@ use Rattle.rows.specs.Slots.{block-code, object-type, object-max-points, number
 use Rattle.grammar.specs.Move.{View}
 use Rattle.place.specs.Told.{toldPlaced}
 use Rattle.place.specs.Walk.{placement}
-use Rattle.place.specs.declared.order.Layout.{Layout}
 use Rattle.place.specs.declared.rules.Axis.{Axis}
 use Rattle.place.specs.declared.rules.Need.{Need}
-use Rattle.place.specs.declared.walk.Ground.{Ground}
 use Rattle.place.specs.declared.walk.Reached.{Reached}
 use Rattle.place.specs.declared.walk.Placed.{Placed}
 use Rattle.place.specs.declared.walk.Placed.the-variants as place
-use Rattle.objects.specs.Object.{led, layoutOf, groundOf, noAxis, ownAxis, valueNeed, axisPtsNeed, blockNeed, axisAt, sharedBy, pointsIn, sharedPoints, axisNeed, curveNeed, mapNeed, characteristicNeed, needOf}
+use Rattle.objects.specs.Object.{led, basisOf, noAxis, ownAxis, valueNeed, axisPtsNeed, blockNeed, axisAt, sharedBy, pointsIn, sharedPoints, axisNeed, curveNeed, mapNeed, characteristicNeed, needOf}
+use Rattle.objects.specs.declared.basis.Basis.{Basis}
 
 pub value-is : (x y : Axis) → x ≡ noAxis → y ≡ noAxis → _≡_ {A = Need} (record { values = true; x = x; y = y }) valueNeed
 value-is x y px py = rw (px, py)
@@ -38,11 +37,11 @@ shared-is x v a from to r pf pt pr = pr ∙ rw (pf, pt)
 pub ruleset numbers = (value-is, axis-pts-is, block-is, shared-is)
 
 module _ (image : List ℕ) (base : ℕ) (x : List ℕ) (v : View) where
-  -- q is what `place_parts` gave
-  module _ (s : ℕ) (g : Ground) (n : Need) (l : Layout) (q : Placed) (pg : g ≡ groundOf x v base s) (pn : n ≡ axisPtsNeed v s) (pl : l ≡ layoutOf x v s) (pq : toldPlaced q ≡ placement g n image l) where
+  -- o is what `basis_of` gave, q what `place_parts` gave
+  module _ (s : ℕ) (o : Basis) (n : Need) (q : Placed) (po : o ≡ basisOf x v base s) (pn : n ≡ axisPtsNeed v s) (pq : toldPlaced q ≡ placement (o .ground) n image (o .layout)) where
     points-are : pointsIn (toldPlaced q) ≡ sharedPoints image base x v s
     unfolding sharedPoints
-    points-are = rw (pq, pg, pn, pl)
+    points-are = rw (pq, po, pn)
 
     pub points-at : (r : Reached) → q ≡ place.At r → r .places .cx ≡ sharedPoints image base x v s
     points-at r y = sym (ap (λ (z : Placed). pointsIn (toldPlaced z)) y) ∙ points-are

@@ -24,6 +24,7 @@ use Rattle.place.specs.declared.rules.Need.{Need}
 use Rattle.place.specs.declared.walk.Ground.{Ground}
 use Rattle.place.specs.declared.walk.Places.{Places}
 use Rattle.place.specs.declared.walk.Reached.{Reached}
+use Rattle.objects.specs.declared.basis.Basis.{Basis}
 
 -- the record of section j that the name from a up to e leads to (the references have been judged: there is one)
 abbrev pub led : List ℕ → View → ℕ → ℕ → ℕ → ℕ
@@ -83,6 +84,10 @@ firstOf v i = cond (eqb (v .slots object i object-byte-order) 0) (eqb (v .slots 
 unfoldable pub groundOf : List ℕ → View → ℕ → ℕ → Ground
 groundOf x v base i =
     record { address = min (v .slots object i object-address) 4294967295; base = base; first = firstOf v i; aligns = alignsOf v (layoutNumber x v i) }
+
+-- what object i rests on
+abbrev pub basisOf : List ℕ → View → ℕ → ℕ → Basis
+basisOf x v base i = record { number = layoutNumber x v i; layout = layoutOf x v i; ground = groundOf x v base i }
 
 -- ---- the need
 

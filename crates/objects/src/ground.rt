@@ -1,13 +1,10 @@
-// The ground that an object stands on: its address, its byte order, its alignment words.
-use crate::layout::layout_number;
+// The byte order and the alignment words of an object.
 use crate::least::least8;
-use crate::least::least32;
 use grammar::view::FILE;
 use grammar::view::LAYOUT;
 use grammar::view::OBJECT;
 use grammar::view::slot_of;
 use place::order::Aligns;
-use place::walk::Ground;
 use rows::slots::COMMON_ALIGNMENT_BYTE;
 use rows::slots::COMMON_ALIGNMENT_LONG;
 use rows::slots::COMMON_ALIGNMENT_WORD;
@@ -15,18 +12,14 @@ use rows::slots::COMMON_BYTE_ORDER;
 use rows::slots::LAYOUT_ALIGNMENT_BYTE;
 use rows::slots::LAYOUT_ALIGNMENT_LONG;
 use rows::slots::LAYOUT_ALIGNMENT_WORD;
-use rows::slots::OBJECT_ADDRESS;
 use rows::slots::OBJECT_BYTE_ORDER;
 use words::codes::MSB_FIRST;
 ghost use mathlib.Core.Path.{_≡_};
 ghost use Rattle.grammar.specs.Move.{viewIn};
-ghost use Rattle.objects.specs.Object.{word, alignsOf, firstOf, groundOf};
+ghost use Rattle.objects.specs.Object.{word, alignsOf, firstOf};
 
 // The greatest alignment word.
 const ALIGNMENT: u8 = 255;
-
-// The greatest address.
-const ADDRESS: u32 = 4294967295;
 
 // An alignment word: slot k of layout l, else slot c of the file's record.
 fn word_of(t: &[u64], l: u16, k: u16, c: u16) -> u8
@@ -41,7 +34,7 @@ fn word_of(t: &[u64], l: u16, k: u16, c: u16) -> u8
 }
 
 // The alignment words for layout l.
-fn aligns_of(t: &[u64], l: u16) -> Aligns
+pub fn aligns_of(t: &[u64], l: u16) -> Aligns
     ensures { λ r. ⌜ r ≡ alignsOf (viewIn (now (t .entry))) l ⌝ }
 {
     let byte = word_of(t, l, LAYOUT_ALIGNMENT_BYTE, COMMON_ALIGNMENT_BYTE);
@@ -60,21 +53,4 @@ pub fn first_of(t: &[u64], i: u16) -> bool
         return common == (MSB_FIRST as u64);
     }
     own == (MSB_FIRST as u64)
-}
-
-// The ground of object i.
-pub fn ground_of(x: &[u8], t: &[u64], base: u32, i: u16) -> Ground
-    ensures { λ r. ⌜ r ≡ groundOf (now (x .entry)) (viewIn (now (t .entry))) base i ⌝ }
-{
-    let at = slot_of(t, OBJECT, i, OBJECT_ADDRESS);
-    let address = least32(at, ADDRESS);
-    let first = first_of(t, i);
-    let l = layout_number(x, t, i);
-    let aligns = aligns_of(t, l);
-    Ground {
-        address,
-        base,
-        first,
-        aligns,
-    }
 }

@@ -12,7 +12,6 @@ use rows::slots::AXIS_PTS_X_POSITION;
 use rows::slots::AXIS_PTS_X_TYPE;
 use rows::slots::AXIS_PTS_Y_POSITION;
 use rows::slots::AXIS_PTS_Y_TYPE;
-use rows::slots::BLOCK_CODE;
 use rows::slots::FNC_VALUES_POSITION;
 use rows::slots::FNC_VALUES_TYPE;
 use rows::slots::NO_AXIS_PTS_X_POSITION;
@@ -21,11 +20,9 @@ use rows::slots::NO_AXIS_PTS_Y_POSITION;
 use rows::slots::NO_AXIS_PTS_Y_TYPE;
 use rows::slots::OBJECT_LAYOUT;
 use rows::slots::OBJECT_LAYOUT_PAST;
-use rows::slots::OBJECT_TYPE;
-use words::codes::MEASUREMENT;
 ghost use mathlib.Core.Path.{_≡_};
 ghost use Rattle.grammar.specs.Move.{viewIn};
-ghost use Rattle.objects.specs.Object.{led, part, layoutAt, noEntry, measured, layoutNumber, layoutOf};
+ghost use Rattle.objects.specs.Object.{led, part, layoutAt, noEntry, measured, layoutNumber};
 
 // The greatest Position.
 const POSITION: u16 = 65535;
@@ -85,7 +82,7 @@ fn no_entry() -> Entry
 }
 
 // The layout of a MEASUREMENT: one value of its data type.
-fn measured(k: u64) -> Layout
+pub fn measured(k: u64) -> Layout
     ensures { λ r. ⌜ r ≡ measured k ⌝ }
 {
     let present = is_type(k);
@@ -111,16 +108,4 @@ pub fn layout_number(x: &[u8], t: &[u64], i: u16) -> u16
     let a = slot_of(t, OBJECT, i, OBJECT_LAYOUT as u16) as usize;
     let e = slot_of(t, OBJECT, i, OBJECT_LAYOUT_PAST) as usize;
     led(x, t, LAYOUT, a, e)
-}
-
-// The layout of object i.
-pub fn layout_of(x: &[u8], t: &[u64], i: u16) -> Layout
-    ensures { λ r. ⌜ r ≡ layoutOf (now (x .entry)) (viewIn (now (t .entry))) i ⌝ }
-{
-    if slot_of(t, OBJECT, i, BLOCK_CODE) == (MEASUREMENT as u64) {
-        let kind = slot_of(t, OBJECT, i, OBJECT_TYPE);
-        return measured(kind);
-    }
-    let l = layout_number(x, t, i);
-    layout_at(t, l)
 }

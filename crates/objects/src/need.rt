@@ -1,6 +1,5 @@
 // What an object needs: its values and its axes.
-use crate::ground::ground_of;
-use crate::layout::layout_of;
+use crate::basis::basis_of;
 use crate::layout::led;
 use crate::least::least16;
 use grammar::view::AXIS;
@@ -106,10 +105,9 @@ pub fn shared_by(x: &[u8], t: &[u64], a: u16) -> u16
 fn shared_points(image: &[u8], base: u32, x: &[u8], t: &[u64], s: u16) -> u16
     ensures { λ r. ⌜ r ≡ sharedPoints (now (image .entry)) base (now (x .entry)) (viewIn (now (t .entry))) s ⌝ }
 {
-    let g = ground_of(x, t, base, s);
+    let b = basis_of(x, t, base, s);
     let n = axis_pts_need(t, s);
-    let l = layout_of(x, t, s);
-    match place_parts(image, g, n, l) {
+    match place_parts(image, b.ground, n, b.layout) {
         Placed::At(r) => {
             let p = r.places;
             p.cx

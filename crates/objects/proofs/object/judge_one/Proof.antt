@@ -11,6 +11,5 @@ judge-one-spec =
     (λ c κs. search needs)
     (λ c κs. search needs)
     (λ c κs. search needs)
-    (λ c κs. search needs)
     (λ c. search judgements)
     (λ c. search judgements))

@@ -9,9 +9,18 @@ use plain::Line;
 use std::hint::black_box;
 use std::time::Instant;
 
-/// A description with its image at base 0, and what stands in the table's first column.
+/// Which calls are timed over a description.
+#[derive(Clone, Copy, PartialEq, PartialOrd)]
+enum Rows {
+    Load,
+    Find,
+    All,
+}
+
+/// A description with its image at base 0, what stands in the table's second column, and its rows.
 struct Subject {
     what: &'static str,
+    rows: Rows,
     text: Vec<u8>,
     image: Vec<u8>,
 }
@@ -37,6 +46,9 @@ const COMMON: &str = "/begin RECORD_LAYOUT L FNC_VALUES 1 UWORD ROW_DIR DIRECT /
 /begin COMPU_METHOD C \"\" RAT_FUNC \"%6.3\" \"V\" COEFFS 0 1000 0 0 0 1 /end COMPU_METHOD
 ";
 
+/// How names begin.
+const PREFIX: &str = "VEHICLE.POWERTRAIN.ENGINE.CONTROL.UNIT.CALIBRATION.PARAMETER.GROUP.SET.OF.VALUES.";
+
 /// 16 MiB, nearly all of it in skipped blocks.
 fn long_text() -> Subject {
     let mut body = String::from(COMMON);
@@ -48,18 +60,22 @@ fn long_text() -> Subject {
         }
         body += "/end CHARACTERISTIC\n";
     }
-    Subject { what: "16 MiB, long skipped blocks", text: module(&body), image: vec![7; 64] }
+    Subject { what: "16 MiB, long skipped blocks", rows: Rows::Load, text: module(&body), image: vec![7; 64] }
 }
 
 /// 512 objects whose names begin alike.
 fn many_objects() -> Subject {
     let mut body = String::from(COMMON);
-    let prefix = "VEHICLE.POWERTRAIN.ENGINE.CONTROL.UNIT.CALIBRATION.PARAMETER.GROUP.SET.OF.VALUES.";
     for number in 0..512 {
-        let name = format!("{prefix}{number:03}");
+        let name = format!("{PREFIX}{number:03}");
         body += &format!("/begin CHARACTERISTIC {name} \"\" VALUE {} L 0 C 0 65 /end CHARACTERISTIC\n", 2 * number);
     }
-    Subject { what: "512 objects, long common name prefixes", text: module(&body), image: vec![7; 1024] }
+    Subject {
+        what: "512 objects, long common name prefixes",
+        rows: Rows::All,
+        text: module(&body),
+        image: vec![7; 1024],
+    }
 }
 
 /// 4,096 elements in few objects.
@@ -71,7 +87,44 @@ fn many_elements() -> Subject {
             "/begin CHARACTERISTIC B{number} \"\" VAL_BLK {address} L 0 C 0 65 NUMBER 1024 /end CHARACTERISTIC\n"
         );
     }
-    Subject { what: "4,096 elements in 4 objects", text: module(&body), image: vec![7; 8192] }
+    Subject { what: "4,096 elements in 4 objects", rows: Rows::All, text: module(&body), image: vec![7; 8192] }
+}
+
+/// 512 objects whose names are as long as each other and end alike; most of them differ in their first byte.
+fn other_beginnings() -> Subject {
+    let mut body = String::from(COMMON);
+    let firsts = b"ABCDEFGHIJKLMNOPQRSTUVWXYZabcdefghijklmnopqrstuvwxyz_";
+    for number in 0..512 {
+        let (first, round) = (firsts[number % firsts.len()] as char, number / firsts.len());
+        let name = format!("{first}{round}_{PREFIX:.80}");
+        body += &format!("/begin CHARACTERISTIC {name} \"\" VALUE {} L 0 C 0 65 /end CHARACTERISTIC\n", 2 * number);
+    }
+    Subject { what: "512 objects, other first bytes", rows: Rows::Find, text: module(&body), image: vec![7; 1024] }
+}
+
+/// 510 MAPs on the same two AXIS_PTS, all names 128 bytes that begin alike; the AXIS_PTS stand before the MAPs or after.
+fn shared_axes(first: bool) -> Subject {
+    let name = |number: usize| format!("{PREFIX}{PREFIX:.44}{number:03}");
+    let mut axes = String::new();
+    for number in 510..512 {
+        let at = 8 * number;
+        axes += &format!("/begin AXIS_PTS {} \"\" {at} NO_INPUT_QUANTITY A 0 C 2 0 65 /end AXIS_PTS\n", name(number));
+    }
+    let mut maps = String::new();
+    for number in 0..510 {
+        maps += &format!("/begin CHARACTERISTIC {} \"\" MAP {} L 0 C 0 65\n", name(number), 8 * number);
+        for axis in 510..512 {
+            let descr = "/begin AXIS_DESCR COM_AXIS NO_INPUT_QUANTITY C 2 0 65 AXIS_PTS_REF";
+            maps += &format!("  {descr} {} /end AXIS_DESCR\n", name(axis));
+        }
+        maps += "/end CHARACTERISTIC\n";
+    }
+    let layout = "/begin RECORD_LAYOUT A AXIS_PTS_X 1 UWORD INDEX_INCR DIRECT /end RECORD_LAYOUT\n";
+    let (what, body) = match first {
+        true => ("510 MAPs, their AXIS_PTS first", format!("{COMMON}{layout}{axes}{maps}")),
+        false => ("510 MAPs, their AXIS_PTS last", format!("{COMMON}{layout}{maps}{axes}")),
+    };
+    Subject { what, rows: Rows::Find, text: module(&body), image: vec![7; 4096] }
 }
 
 /// The proved reader's load.
@@ -277,8 +330,7 @@ fn times(seconds: f64, mut subject: Subject) {
         second: vec![0; 4096],
         out: vec![0; 1 << 20],
     };
-    let what = subject.what;
-    let long = subject.text.len() > 1 << 20;
+    let (what, rows) = (subject.what, subject.rows);
     let accepted = |answer: u64| assert_eq!(answer, 0, "the proved reader accepts");
     let refused = "the plain reader accepts";
     row(
@@ -288,7 +340,7 @@ fn times(seconds: f64, mut subject: Subject) {
         |_| accepted(load(&subject, &mut lent)),
         |_| drop(black_box(plain::load(&subject.text, &subject.image, 0).expect(refused))),
     );
-    if long {
+    if rows == Rows::Load {
         return;
     }
     let cells = plain::load(&subject.text, &subject.image, 0).expect(refused);
@@ -307,6 +359,9 @@ fn times(seconds: f64, mut subject: Subject) {
             black_box(plain::find(&subject.text, &subject.image, 0, &cells, &name).expect(refused));
         },
     );
+    if rows < Rows::All {
+        return;
+    }
     row(
         seconds,
         "make_list",
@@ -373,4 +428,7 @@ fn main() {
     times(seconds, long_text());
     times(seconds, many_objects());
     times(seconds, many_elements());
+    times(seconds, other_beginnings());
+    times(seconds, shared_axes(true));
+    times(seconds, shared_axes(false));
 }

@@ -57,6 +57,7 @@ ghost use mathlib.Core.Path.{_≡_};
 ghost use Prim.Native.Nat.{_-_};
 ghost use lib.ListN.{length};
 ghost use Rattle.words.specs.Class.{classAt};
+ghost use Rattle.rows.specs.Codes.{MODULE};
 ghost use Rattle.rows.specs.Rows.{rows, needed};
 ghost use Rattle.grammar.specs.Move.{viewIn, moved};
 ghost use Rattle.grammar.specs.Keyword.{rowFrom, rowOf, mayStand, axesOf, limitOf, isOften, oneMore, counting, stands, plainRow, homeOf, bareWord, levelsIn, skips, opens, begunWord, isMet, allMet, ends, holderOf, closes, endedWord, item, afterBegin, afterEnd};
@@ -71,7 +72,7 @@ const OUTSIDE: u8 = 2;
 
 // A row of MODULE's that the row of the word w does not come before: the search from there on finds what the search from the first row finds.
 fn module_row(w: u8) -> u8
-    ensures { λ r. ⌜ rowFrom (length rows - r) r 2 w ≡ rowOf 2 w ⌝ }
+    ensures { λ r. ⌜ rowFrom (length rows - r) r MODULE w ≡ rowOf MODULE w ⌝ }
 {
     match w {
         AXIS_PTS => 22,

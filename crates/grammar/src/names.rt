@@ -15,6 +15,7 @@ pub enum Found {
 }
 
 // The first record of section j whose name is the bytes from a up to e, compared from the last byte backward.
+// A record's first two cells, at and at + 1, are its name's first byte and the place past it (OWN_NAME, OWN_NAME_PAST).
 pub fn find(x: &[u8], t: &[u64], j: u8, a: usize, e: usize) -> Found
     ensures { λ r. ⌜ foundAt r ≡ find (now (x .entry)) (viewIn (now (t .entry))) j a e ⌝ }
 {

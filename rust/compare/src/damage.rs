@@ -174,13 +174,27 @@ fn of_kind(tokens: &[Token], kinds: &[Kind], rng: &mut Rng) -> usize {
     }
 }
 
-/// Another name of the description, or one that it has not.
+/// A name with one byte changed: its first, its last, or any.
+fn changed(mut name: Vec<u8>, rng: &mut Rng) -> Vec<u8> {
+    if !name.is_empty() {
+        let at = match rng.below(3) {
+            0 => 0,
+            1 => name.len() - 1,
+            _ => rng.place(name.len()),
+        };
+        name[at] = if name[at] == b'Z' { b'Y' } else { b'Z' };
+    }
+    name
+}
+
+/// Another name of the description, one that differs from it in a byte, or one that it has not.
 fn another_name(tokens: &[Token], rng: &mut Rng) -> Vec<u8> {
-    match rng.below(6) {
+    match rng.below(7) {
         0 => b"MISSING".to_vec(),
         1 => "N".repeat(129).into_bytes(),
         2 => "N".repeat(128).into_bytes(),
         3 => b"NO_COMPU_METHOD".to_vec(),
+        4 => changed(tokens[of_kind(tokens, &[Kind::Def], rng)].bytes.clone(), rng),
         _ => tokens[of_kind(tokens, &[Kind::Def], rng)].bytes.clone(),
     }
 }

@@ -224,7 +224,7 @@ impl Maker<'_> {
     fn name(&mut self, object: bool) -> Vec<u8> {
         loop {
             let number = self.rng.below(1000);
-            let name = match self.rng.below(16) {
+            let name = match self.rng.below(17) {
                 0 => word(self.rng),
                 1 => b"A".to_vec(),
                 2 => format!("_x[{number}].b").into_bytes(),
@@ -235,6 +235,7 @@ impl Maker<'_> {
                 7 => format!("a{}", number % 5).into_bytes(),
                 8 => format!("A{}", number % 5).into_bytes(),
                 9 => b"A..[".to_vec(),
+                10 => format!("{}{}", (b'A' + (number % 26) as u8) as char, "N".repeat(127)).into_bytes(),
                 _ => format!("OBJ_{number}").into_bytes(),
             };
             let names = if object { &mut self.objects } else { &mut self.others };

@@ -1,13 +1,14 @@
 // What a person types: a part's letter, a raw number.
 ghost use mathlib.Core.Path.{_≡_};
-ghost use Prim.Native.Nat.{_≤_};
-ghost use lib.ListN.{length, drop};
-ghost use Rattle.number.specs.Decimal.{signs, minus};
+ghost use lib.ListN.{drop};
+ghost use Rattle.number.specs.Decimal.{signs};
 ghost use Rattle.number.specs.Told.{toldWhole};
 ghost use Rattle.number.specs.Whole.{wholeFrom};
 ghost use Rattle.number.specs.Signed.{mostSigned};
 ghost use Rattle.ask.specs.Typed.{partOf, rawTyped};
 ghost use Rattle.ask.specs.Told.{toldTyped};
+use number::decimal::is_minus;
+use number::decimal::sign_len;
 use number::digits::NO_FORM;
 use number::signed::most_signed;
 use number::signed::with_sign;
@@ -23,11 +24,7 @@ const LETTER_V: u8 = 118;
 
 const NO_PART: u8 = 3;
 
-// The signs, and the second byte of a hex number, which no raw number is.
-const PLUS: u8 = 43;
-
-const MINUS: u8 = 45;
-
+// The second byte of a hex number, which no raw number is.
 const HEX_MARK: u8 = 120;
 
 // A raw number, or a word that writes none.
@@ -49,30 +46,6 @@ pub fn part_of(s: &[u8]) -> u8
         LETTER_V => 2,
         _ => NO_PART,
     }
-}
-
-// How many signs stand first: 0 or 1.
-fn sign_len(s: &[u8]) -> usize
-    ensures { λ r. ⌜ (r ≡ signs (now (s .entry))) × (r ≤ length (now (s .entry))) ⌝ }
-{
-    if s.len() == 0 {
-        return 0;
-    }
-    match s[0] {
-        PLUS => 1,
-        MINUS => 1,
-        _ => 0,
-    }
-}
-
-// Whether a minus stands first.
-fn is_minus(s: &[u8]) -> bool
-    ensures { λ r. ⌜ r ≡ minus (now (s .entry)) ⌝ }
-{
-    if s.len() == 0 {
-        return false;
-    }
-    s[0] == MINUS
 }
 
 // The whole number that decimal digits write, at most most.

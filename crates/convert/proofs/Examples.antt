@@ -9,7 +9,7 @@ use lib.IntN.{pos, negℤ}
 use lib.ListN.{getD}
 use Rattle.number.specs.Answer.{given, refused}
 use Rattle.number.specs.Digits.{digitOf, leading, trailing, valueOn, allDigits}
-use Rattle.number.specs.Decimal.{Scaled, signs, minus, lowest, made, pointed, decimalOf}
+use Rattle.number.specs.Decimal.{Scaled, signs, minus, lowest, made, pointed, isExponent, exponentSize, pointMoved, judgedDecimal, movedDecimal, signedBy, plainOf, isE, mantissa, fromE, withExponent, decimalOf}
 use Rattle.convert.specs.Limit.{formed, atMost, withinLimits}
 use Rattle.convert.specs.Fraction.{none, number, text}
 use Rattle.convert.specs.Shown.{nothing, words, shown}
@@ -25,10 +25,16 @@ abbrev over : ℕ → ℕ → Scaled
 over n t = record { negative = false; whole = n; tens = t }
 
 -- needless zeros are dropped before the whole number is bounded; what is no decimal is 15
-asked : map (λ (s : String). askedOf (bytes s)) ("12345678.90" ∷ "1234567.891" ∷ "1000000000" ∷ "1000000001" ∷ "+5" ∷ "0x10" ∷ "1e3" ∷ " 5" ∷ "" ∷ [])
-    ≡ given (over 123456789 1) ∷ refused 15 ∷ given (over 1000000000 0) ∷ refused 15 ∷ given (over 5 0) ∷ refused 15 ∷ refused 15 ∷ refused 15 ∷ refused 15 ∷ []
-unfolding bytes askedOf decimalOf pointed made lowest signs minus leading trailing valueOn allDigits digitOf
+asked : map (λ (s : String). askedOf (bytes s)) ("12345678.90" ∷ "1234567.891" ∷ "1000000000" ∷ "1000000001" ∷ "+5" ∷ "0x10" ∷ " 5" ∷ "" ∷ [])
+    ≡ given (over 123456789 1) ∷ refused 15 ∷ given (over 1000000000 0) ∷ refused 15 ∷ given (over 5 0) ∷ refused 15 ∷ refused 15 ∷ refused 15 ∷ []
+unfolding bytes askedOf decimalOf signedBy plainOf isE fromE withExponent pointed made lowest signs minus leading trailing valueOn allDigits digitOf
 asked = refl
+
+-- with an exponent the bound is on the number after the move
+exponents : map (λ (s : String). askedOf (bytes s)) ("1e9" ∷ "12345678.90e0" ∷ "1000000001e0" ∷ "1234567.891e0" ∷ "1e10" ∷ "1e-7" ∷ "1e" ∷ [])
+    ≡ given (over 1000000000 0) ∷ given (over 123456789 1) ∷ refused 15 ∷ refused 15 ∷ refused 15 ∷ refused 15 ∷ refused 15 ∷ []
+unfolding bytes askedOf decimalOf signedBy plainOf isE mantissa fromE withExponent isExponent exponentSize pointMoved judgedDecimal movedDecimal pointed made lowest signs minus leading trailing valueOn allDigits digitOf
+exponents = refl
 
 -- both ends of 0.5 to 2 are inside
 limits : map (withinLimits (over 5 1) (over 2 0)) (over 49 2 ∷ over 5 1 ∷ over 2 0 ∷ over 2001 3 ∷ []) ≡ false ∷ true ∷ true ∷ false ∷ []

@@ -14,9 +14,9 @@ use crate::method::all_small;
 use crate::round::nearest_of;
 use crate::whole::ten;
 use cell::raw::fits_raw;
+use decimals::decimal_of;
 use number::decimal::Decimal;
 use number::decimal::DecimalAnswer;
-use number::decimal::decimal_of;
 use number::signed::with_sign;
 
 // Refusals: outside its form, outside limits, no raw value exists, doesn't fit type or mask.

@@ -33,3 +33,4 @@ pub mod Sources
 pub mod Converting
 pub mod Powers
 pub mod Types
+pub mod Numbers

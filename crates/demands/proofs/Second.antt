@@ -6,18 +6,24 @@
 --     stands               every element, on the lent cells (specs/Standing)
 --     reads                what the call that reads it answers (specs/Readings, Value)
 --     stores               what an accepted physical write leaves (specs/Writings, Nearest)
+--     exponent-exactly, as-before, narrower     which runs of bytes are read as decimals, with an exponent and without
+--     decimals-exact, asked-exact, asked-alike     what they mean, in a description and in a write
 --     none-exactly, whole-at-least-power, linear, six-types, type-word     of the conversions and data types in them (specs/Powers, Types)
-use Prim.Native.Nat.{ℕ, _*_, _≤_, _<_, max}
-use mathlib.Core.Path.{_≡_}
+use Prim.Native.Nat.{ℕ, _-_, _*_, _≤_, _<_, max}
+use mathlib.Core.Path.{_≡_, sym}
 use mathlib.Core.List.{List}
-use mathlib.Core.Bool.{true}
+use mathlib.Core.Bool.{true, false}
 use mathlib.Core.Logic.{_↔_}
 use lib.IntN.{ℤ, pos, _-ℤ_, _*ℤ_}
-use lib.ListN.{length, getD, replicate}
+use lib.ListN.{length, take, drop, getD, replicate}
 use Rattle.text.specs.Answer as text
 use Rattle.number.specs.Answer.{given}
-use Rattle.number.specs.Decimal.{Scaled}
+use Rattle.number.specs.Decimal.{Scaled, Form, isE, plainOf, decimalOf}
+use Rattle.number.specs.Exact.{ExponentForm, Exact, SameNumber}
+use Rattle.number.proofs.Exponents as exponents
+use Rattle.number.proofs.ExponentForms as forms
 use Rattle.cell.specs.Kind.{shapeOf}
+use Rattle.convert.specs.Asked.{askedOf}
 use Rattle.convert.specs.Fraction.{none, fraction}
 use Rattle.convert.specs.Method.{ratFunc, linearAt, linearOf}
 use Rattle.convert.specs.declared.method.Coefficients.{Coefficients}
@@ -30,6 +36,7 @@ use Rattle.grammar.specs.Move.{view}
 use Rattle.objects.specs.Object.{layoutOf, needOf}
 use Rattle.tables.specs.Form.{tablesIn}
 use Rattle.tables.specs.Group.{groupOf}
+use Rattle.tree.specs.Tree.{Decimal}
 use Rattle.load.specs.Load.{loaded}
 use Rattle.keeps.specs.Stands.{Part, numberOf, needed, acrossOf, downOf}
 use Rattle.look.specs.Calls.{lentOf, Reading, reading, Kept, physicalText, request, writing}
@@ -46,6 +53,7 @@ use Rattle.demands.proofs.Writings as writings
 use Rattle.demands.proofs.Meaning as meaning
 use Rattle.demands.proofs.Powers as powers
 use Rattle.demands.proofs.Types as types
+use Rattle.demands.proofs.Numbers as numbers
 
 module _ (x image : List ℕ) (base : ℕ) (tables work : List ℕ) where
   -- "A description with its image is accepted exactly if it keeps the written rules."
@@ -76,6 +84,33 @@ module _ (x image : List ℕ) (base : ℕ) (tables work : List ℕ) where
           → Stored x (view (k .records)) i (layoutOf x (view (k .records)) i) p j s (loaded x image base tables work .tables) (length x) base
           (writing (loaded x image base tables work .tables) (length x) base c (request i (numberOf p) j (physicalText s)) .left)
       stores = writings.physical-stored x image base tables work f k i l p e
+
+-- "Read an optional E or e, an optional sign and one or two digits. The meaning is the exact decimal. It is accepted if, after moving the point and dropping
+-- needless zeros, it has at most 10 digits and at most 6 after the point; otherwise still 2." (document 02, wish 1): a run of bytes that has an E or e is read as
+-- the decimal d exactly if it has that form, d is exactly what it writes, over the smallest power of ten, and d has so many digits (number, specs/Exact)
+pub exponent-exactly : (s : List ℕ) (i : ℕ) → isE (getD s i 0) ≡ true → (d : Scaled) → (decimalOf s ≡ given d) ↔ (ExponentForm s × Exact s d × Form d)
+exponent-exactly = forms.exponent-exactly
+
+-- "Numbers without an exponent read as before.": a run in which no byte is an E or e (past its end it has 0) reads as document 01 says
+pub as-before : (s : List ℕ) → ((i : ℕ) → isE (getD s i 0) ≡ false) → decimalOf s ≡ plainOf s
+as-before = exponents.plain-as-before
+
+-- "2 is narrower": what was read before is read so still
+pub narrower : (s : List ℕ) (d : Scaled) → plainOf s ≡ given d → decimalOf s ≡ given d
+narrower s d q = sym (exponents.refused-narrower s d (sym q))
+
+-- "The meaning is the exact decimal.": each decimal of an accepted description, the token m up to the place e, and each value that a write asks for is exactly
+-- what its bytes write
+pub decimals-exact : (x : List ℕ) (k e : ℕ) (m : Scaled) (d : Decimal x k m e) → Exact (take (e - d .0) (drop (d .0) x)) m
+decimals-exact = numbers.token-exact
+
+pub asked-exact : (s : List ℕ) (d : Scaled) → askedOf s ≡ given d → Exact s d
+asked-exact = numbers.asked-exact
+
+-- a write that asks for the same number in another form, as `1200` and `1.2E3`, is the same write: its answer, the image and the list
+pub asked-alike : (t : List ℕ) (n base : ℕ) (c : Kept) (i p j : ℕ) (s r : List ℕ) (d e : Scaled) → decimalOf s ≡ given d → decimalOf r ≡ given e → SameNumber s r
+    → writing t n base c (request i p j (physicalText s)) ≡ writing t n base c (request i p j (physicalText r))
+asked-alike = numbers.asked-alike
 
 -- "Divisor 0: no value.", and a value for any other
 pub none-exactly : (k : Coefficients) (z : ℤ) → (fraction k z ≡ none) ↔ (k .b -ℤ k .e *ℤ z ≡ pos 0)

@@ -13,7 +13,7 @@ use libc::STDIN_FILENO;
 use libc::STDOUT_FILENO;
 
 // The most bytes of all descriptions together.
-const TEXT_BYTES: usize = 32768;
+const TEXT_BYTES: usize = 40960;
 
 // How many cells the records take: grammar's ROOM.
 const CELLS: usize = 42578;

@@ -18,7 +18,7 @@ use Rattle.text.specs.Token.{nameEnd, nameAt, stringEnd, stringAt, runEnd, numb
 use Rattle.number.specs.Answer.{inRun}
 use Rattle.number.specs.Digits.{digitOf, valueOn, allDigits, leading, trailing}
 use Rattle.number.specs.Whole.{wholeFrom, wholeOf}
-use Rattle.number.specs.Decimal.{signs, minus, lowest, made, pointed, decimalOf}
+use Rattle.number.specs.Decimal.{signs, minus, lowest, made, isExponent, exponentSize, pointMoved, judgedDecimal, movedDecimal, pointed, signedBy, plainOf, isE, mantissa, fromE, withExponent, decimalOf}
 use Rattle.convert.specs.Whole.{allSmall}
 use Rattle.convert.specs.Limit.{formed, atMost}
 use Rattle.convert.specs.Method.{soundMethod, judgedMethod, ratFunc, linearOf}
@@ -71,7 +71,7 @@ use Rattle.exhibit.specs.Example.{exampleText, exampleImage, exampleTabl
 use Rattle.demands.proofs.Accepting.{loaded-given, accepted-exactly}
 
 pub example-described : described exampleImage 0x1000 exampleText ≡ given exampleTables
-unfolding walk over isBlank isAllowed isLetter isDigit startsName inName startsNumber pairAt sameFor samePart lineEnd commentEnd blankAt tokenEnds nameEnd nameAt stringEnd stringAt runEnd numberAt isBegin isEnd markAt tokenAt nextToken inRun digitOf valueOn allDigits leading trailing wholeFrom wholeOf signs minus lowest made pointed decimalOf allSmall formed atMost soundMethod judgedMethod ratFunc linearOf word bytes same kindIn wordRows classOf classAt sections rows needed rowAt needAt allParams paramAt firstParam applied wrong keeping takenWhole takenPairs hasEntry takenEntry takenDecimal takenNumber findFrom takenNew takenName takenText taken rowFrom rowOf oneMore stands plainRow skips opens allMet ends item afterBegin afterEnd onPiece move readFrom start read referenceRows innerRows isFree leads failing leastFrom referred linearAt ratFuncAt coefficients convertsFrom shapes shapeOf maskRule number cell.rawOf rawAt wordFor alignment nextFrom aligned inside insert inOrder parts both apart apartFrom allApart distinct matching comesBefore counted soundLayout place.start startOf countStored countAt pointsOf within placeOne allPlaced placement bytesOf elementsStored allInside weighed judgedObject object.word isType part layoutAt measured layoutOf alignsOf firstOf groundOf axisPtsNeed blockNeed maskFits sharedPoints axisNeed curveNeed mapNeed characteristicNeed needOf judgeObject placesOf elementsOf names named turnsFrom turn judgeEach judgeAll rowsBelow typeOf whatOf methodNumber methodIn forbids build.limitCells meaning valuesWalk maskOf xPart yPart valuesPart knownOf groupsBelow conversionOf methodRow entriesEnd built described
+unfolding walk over isBlank isAllowed isLetter isDigit startsName inName startsNumber pairAt sameFor samePart lineEnd commentEnd blankAt tokenEnds nameEnd nameAt stringEnd stringAt runEnd numberAt isBegin isEnd markAt tokenAt nextToken inRun digitOf valueOn allDigits leading trailing wholeFrom wholeOf signs minus lowest made isExponent exponentSize pointMoved judgedDecimal movedDecimal pointed signedBy plainOf isE mantissa fromE withExponent decimalOf allSmall formed atMost soundMethod judgedMethod ratFunc linearOf word bytes same kindIn wordRows classOf classAt sections rows needed rowAt needAt allParams paramAt firstParam applied wrong keeping takenWhole takenPairs hasEntry takenEntry takenDecimal takenNumber findFrom takenNew takenName takenText taken rowFrom rowOf oneMore stands plainRow skips opens allMet ends item afterBegin afterEnd onPiece move readFrom start read referenceRows innerRows isFree leads failing leastFrom referred linearAt ratFuncAt coefficients convertsFrom shapes shapeOf maskRule number cell.rawOf rawAt wordFor alignment nextFrom aligned inside insert inOrder parts both apart apartFrom allApart distinct matching comesBefore counted soundLayout place.start startOf countStored countAt pointsOf within placeOne allPlaced placement bytesOf elementsStored allInside weighed judgedObject object.word isType part layoutAt measured layoutOf alignsOf firstOf groundOf axisPtsNeed blockNeed maskFits sharedPoints axisNeed curveNeed mapNeed characteristicNeed needOf judgeObject placesOf elementsOf names named turnsFrom turn judgeEach judgeAll rowsBelow typeOf whatOf methodNumber methodIn forbids build.limitCells meaning valuesWalk maskOf xPart yPart valuesPart knownOf groupsBelow conversionOf methodRow entriesEnd built described
 example-described = refl
 
 -- in tables of the least size and work that is long enough

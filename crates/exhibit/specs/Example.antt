@@ -1,6 +1,6 @@
 -- A description with a masked value, curves with an axis of their own and a shared one, maps, a block of values and a measurement, and its image: what it is
 -- accepted into, and its listing. It has every keyword with a meaning, with numbers that differ from those beside them, so that no two slots can be exchanged on
--- the way to the tables.
+-- the way to the tables; some of them are written with an exponent.
 use Prim.Native.Nat.{ℕ}
 use mathlib.Core.List.{List, [], _∷_, _++_}
 use lib.ListN.{replicate}
@@ -13,7 +13,7 @@ exampleText =
     spelt "/begin PROJECT P \"\"\n"
     ++ spelt "/begin MODULE M \"\"\n"
     ++ spelt "/begin MOD_COMMON \"\" BYTE_ORDER MSB_FIRST ALIGNMENT_BYTE 4 ALIGNMENT_WORD 2 ALIGNMENT_LONG 8 /end MOD_COMMON\n"
-    ++ spelt "/begin COMPU_METHOD Half \"\" LINEAR \"\" \"\" COEFFS_LINEAR 0.5 -40 /end COMPU_METHOD\n"
+    ++ spelt "/begin COMPU_METHOD Half \"\" LINEAR \"\" \"\"COEFFS_LINEAR 5e-1 -40 /end COMPU_METHOD\n"
     ++ spelt "/begin COMPU_METHOD Verb \"\" TAB_VERB \"\" \"\" COMPU_TAB_REF Words /end COMPU_METHOD\n"
     ++ spelt "/begin COMPU_METHOD Ratio \"\" RAT_FUNC \"\" \"\" COEFFS 0 2 3 0 0.5 7 /end COMPU_METHOD\n"
     ++ spelt "/begin COMPU_VTAB Words \"\" TAB_VERB 2 0 \"OFF\" 1 \"ON\" DEFAULT_VALUE \"??\" /end COMPU_VTAB\n"
@@ -26,9 +26,9 @@ exampleText =
     ++ spelt "/begin CHARACTERISTIC Masked \"\" VALUE 0x100C One 0 Half 0 65535 BIT_MASK 0x00F0 READ_ONLY /end CHARACTERISTIC\n"
     ++ spelt "/begin CHARACTERISTIC Curve \"\" CURVE 0x1001 Line 0 NO_COMPU_METHOD 0 255\n"
     ++ spelt "/begin AXIS_DESCR STD_AXIS NO_INPUT_QUANTITY NO_COMPU_METHOD 4 0 65535 /end AXIS_DESCR /end CHARACTERISTIC\n"
-    ++ spelt "/begin CHARACTERISTIC Field \"\" MAP 0x1010 Field 0 NO_COMPU_METHOD -1.5 2000\n"
+    ++ spelt "/begin CHARACTERISTIC Field \"\" MAP 0x1010 Field 0 NO_COMPU_METHOD -1.5 2E+3\n"
     ++ spelt "/begin AXIS_DESCR STD_AXIS Seen NO_COMPU_METHOD 2 0 255 READ_ONLY /end AXIS_DESCR\n"
-    ++ spelt "/begin AXIS_DESCR STD_AXIS NO_INPUT_QUANTITY NO_COMPU_METHOD 3 -100 100 /end AXIS_DESCR /end CHARACTERISTIC\n"
+    ++ spelt "/begin AXIS_DESCR STD_AXIS NO_INPUT_QUANTITY NO_COMPU_METHOD 3 -100 1e2 /end AXIS_DESCR /end CHARACTERISTIC\n"
     ++ spelt "/begin AXIS_PTS Shared \"\" 0x1030 Seen Points 0 Ratio 5 -30 31 BYTE_ORDER MSB_LAST /end AXIS_PTS\n"
     ++ spelt "/begin CHARACTERISTIC Over \"\" CURVE 0x1040 One 0 Half -20 21.5\n"
     ++ spelt "/begin AXIS_DESCR COM_AXIS Seen NO_COMPU_METHOD 3 0 9 AXIS_PTS_REF Shared /end AXIS_DESCR /end CHARACTERISTIC\n"

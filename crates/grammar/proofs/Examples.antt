@@ -14,7 +14,8 @@ use Rattle.text.specs.Skip.{tagAt, closing, isA2ml, a2mlItem, a2mlEnd, blockIte
 use Rattle.number.specs.Answer.{inRun}
 use Rattle.number.specs.Digits.{digitOf, valueOn, allDigits, leading, trailing}
 use Rattle.number.specs.Whole.{wholeFrom, wholeOf}
-use Rattle.number.specs.Decimal.{signs, minus, lowest, made, pointed, decimalOf}
+use Rattle.number.specs.Decimal.{signs, minus, lowest, made, isExponent, exponentSize, pointMoved, judgedDecimal, movedDecimal, pointed, signedBy, plainOf, isE, mantissa, fromE, withExponent, decimalOf}
+use Rattle.number.specs.Form.{formed as runFormed, hasForm}
 use Rattle.convert.specs.Limit.{formed, atMost}
 use Rattle.words.specs.Row.{word, bytes, same, kindIn}
 use Rattle.words.specs.Table.{wordRows as words}
@@ -51,6 +52,12 @@ descriptions =
     ∷ (inModule "/begin MEASUREMENT a \"\" UBYTE c 0 0 0 255 /end MEASUREMENT", refused 5 81)
     -- a lower limit above the upper
     ∷ (inModule "/begin MEASUREMENT a \"\" UBYTE c 0 0 255 0 ECU_ADDRESS 0x10 /end MEASUREMENT", refused 5 79)
+    -- limits with exponents: 1200 is above 0.5
+    ∷ (inModule "/begin MEASUREMENT a \"\" UBYTE c 0 0 1.2E3 5e-1 ECU_ADDRESS 0x10 /end MEASUREMENT", refused 5 81)
+    -- where no number is wanted, one that has a form and one that has none; a whole number has no exponent
+    ∷ (inModule "1e3", refused 5 39)
+    ∷ (inModule "1e99", refused 2 39)
+    ∷ (inModule "/begin RECORD_LAYOUT L FNC_VALUES 1e0", refused 2 73)
     -- a word that document 000 doesn't list, and one that it lists alone
     ∷ (inModule "FOO", refused 4 39)
     ∷ (inModule "/begin UNIT", refused 9 46)
@@ -61,5 +68,5 @@ descriptions =
     ∷ []
 
 each-description : map (λ c. read (c .0)) descriptions ≡ map (λ c. c .1) descriptions
-unfolding walk over isBlank isAllowed isLetter isDigit startsName inName startsNumber pairAt sameFor samePart lineEnd commentEnd blankAt tokenEnds nameEnd nameAt stringEnd stringAt runEnd numberAt isBegin isEnd markAt tokenAt nextToken runItem itemAt nextItem tagAt closing isA2ml a2mlItem a2mlEnd blockItem blockEnd blockIn skipBlock inRun digitOf valueOn allDigits leading trailing wholeFrom wholeOf signs minus lowest made pointed decimalOf formed atMost word bytes same kindIn words classOf classAt sections rows needed rowAt needAt allParams paramAt firstParam applied wrong keeping takenWhole takenDecimal takenNumber findFrom takenNew takenName takenText taken rowFrom rowOf oneMore stands plainRow skips opens allMet ends item afterBegin afterEnd onPiece move readFrom start read
+unfolding walk over isBlank isAllowed isLetter isDigit startsName inName startsNumber pairAt sameFor samePart lineEnd commentEnd blankAt tokenEnds nameEnd nameAt stringEnd stringAt runEnd numberAt isBegin isEnd markAt tokenAt nextToken runItem itemAt nextItem tagAt closing isA2ml a2mlItem a2mlEnd blockItem blockEnd blockIn skipBlock inRun digitOf valueOn allDigits leading trailing wholeFrom wholeOf signs minus lowest made isExponent exponentSize pointMoved judgedDecimal movedDecimal pointed signedBy plainOf isE mantissa fromE withExponent decimalOf runFormed hasForm formed atMost word bytes same kindIn words classOf classAt sections rows needed rowAt needAt allParams paramAt firstParam applied wrong keeping takenWhole takenDecimal takenNumber findFrom takenNew takenName takenText taken rowFrom rowOf oneMore stands plainRow skips opens allMet ends item afterBegin afterEnd onPiece move readFrom start read
 each-description = refl

@@ -309,7 +309,7 @@ fn whole_of(x: &[u8], s: State, a: usize, e: usize) -> Move
 fn decimal_of(x: &[u8], t: &[u64], s: State, a: usize, e: usize) -> Move
     ensures { λ r. ⌜ moved r ≡ ofDecimal (now (x .entry)) (viewIn (now (t .entry))) s a e ⌝ }
 {
-    match number::decimal::decimal_in(x, a, e) {
+    match decimals::decimal_in(x, a, e) {
         DecimalAnswer::Number(d) => taken_decimal(t, s, a, e, d),
         DecimalAnswer::Refused { no } => Move::Refused { no, place: a },
     }

@@ -8,7 +8,7 @@ use mathlib.Core.Bool.{true, false}
 use Rattle.number.specs.Answer.{Answer, given, refused, inRun}
 use Rattle.number.specs.Digits.{digitOf, leading, trailing, valueOn, allDigits}
 use Rattle.number.specs.Whole.{wholeFrom, wholeOf}
-use Rattle.number.specs.Decimal.{Scaled, signs, minus, lowest, made, pointed, decimalOf}
+use Rattle.number.specs.Decimal.{Scaled, signs, minus, lowest, made, pointed, isExponent, exponentSize, pointMoved, judgedDecimal, movedDecimal, signedBy, plainOf, isE, mantissa, fromE, withExponent, decimalOf}
 
 bytes : String → List ℕ
 bytes []ˢ = []
@@ -52,7 +52,6 @@ decimals =
     ∷ row ".5" (refused 2)
     ∷ row "5." (refused 2)
     ∷ row "1.2.3" (refused 2)
-    ∷ row "1e3" (refused 2)
     ∷ row "0x10" (refused 2)
     ∷ row "+-5" (refused 2)
     ∷ row " 5" (refused 2)
@@ -61,8 +60,46 @@ decimals =
     ∷ []
 
 decimal-cases : answers decimalOf decimals ≡ wanted decimals
-unfolding bytes answers wanted decimals plus below decimalOf pointed made lowest signs minus leading trailing digitOf valueOn allDigits
+unfolding bytes answers wanted decimals plus below decimalOf pointed made lowest signs minus leading trailing digitOf valueOn allDigits signedBy plainOf isE mantissa fromE withExponent isExponent exponentSize pointMoved judgedDecimal movedDecimal
 decimal-cases = refl
+
+-- exponents: the form, the digits that count, the sign of 0
+exponents : List (Case Scaled)
+exponents =
+    row "1.2E3" (plus 1200 0)
+    ∷ row "5e-1" (plus 5 1)
+    ∷ row "1e9" (plus 1000000000 0)
+    ∷ row "9999999999e0" (plus 9999999999 0)
+    ∷ row "99999999990e-1" (plus 9999999999 0)
+    ∷ row "10e-7" (plus 1 6)
+    ∷ row "0.0000001e1" (plus 1 6)
+    ∷ row "1234567.891e-3" (plus 1234567891 6)
+    ∷ row "00000000000012e0" (plus 12 0)
+    ∷ row "1000000000000000000000000000000000000000000000000000000000000000000000000000000000000000000000000000e-99" (plus 1 0)
+    ∷ row "-12.50E+01" (below 125 0)
+    ∷ row "0e99" (plus 0 0)
+    ∷ row "-0E-99" (plus 0 0)
+    ∷ row "1234567890.0E0" (plus 1234567890 0)
+    ∷ row "1234567890.0" (refused 2)
+    ∷ row "1e10" (refused 2)
+    ∷ row "1e-7" (refused 2)
+    ∷ row "12345678901e-1" (refused 2)
+    ∷ row "12345.678912e0" (refused 2)
+    ∷ row "123456789.1e2" (refused 2)
+    ∷ row "1.E3" (refused 2)
+    ∷ row ".5e1" (refused 2)
+    ∷ row "1e" (refused 2)
+    ∷ row "1e+" (refused 2)
+    ∷ row "1e005" (refused 2)
+    ∷ row "1e3.0" (refused 2)
+    ∷ row "1e3e3" (refused 2)
+    ∷ row "--1e3" (refused 2)
+    ∷ row "e3" (refused 2)
+    ∷ []
+
+exponent-cases : answers decimalOf exponents ≡ wanted exponents
+unfolding bytes answers wanted exponents plus below decimalOf pointed made lowest signs minus leading trailing digitOf valueOn allDigits signedBy plainOf isE mantissa fromE withExponent isExponent exponentSize pointMoved judgedDecimal movedDecimal
+exponent-cases = refl
 
 -- at most 65535
 wholes : List (Case ℕ)

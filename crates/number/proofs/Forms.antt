@@ -1,19 +1,19 @@
 -- Signs, the smallest power of ten, and what follows the first digits, by the tests that the code makes.
 use Prim.Native.Nat.{ℕ, zero, suc, _+_, _*_, _-_, _/_, _%_, _<_, _≤_}
 use native.Mathlib.Omega.{arith}
-use mathlib.Core.Path.{_≡_, refl, sym, _∙_, ap}
+use mathlib.Core.Path.{_≡_, refl, _∙_, ap}
 use mathlib.Core.List.{List, [], _∷_, _++_}
 use mathlib.Core.Bool.{Bool, true, false, not, cond, _&&_, and-false}
-use borrow.Author.Tests.{le-leb, lt-leb, eq-eqb, ne-eqb, leb-false}
+use borrow.Author.Tests.{le-leb, lt-leb, eq-eqb, ne-eqb}
 use borrow.Author.Needs.{needs}
-use lib.Dec.{eqb, ltb, leb}
+use lib.Dec.{eqb, ltb}
 use lib.ListN.{length, drop, getD}
+use mir.Syntax.{w32}
+use mir.Val.{Fits}
 use Rattle.number.specs.Answer.{Answer, given, refused}
 use Rattle.number.specs.Digits.{digitOf, leading, trailing, valueOn, allDigits}
-use Rattle.number.specs.Decimal.{Scaled, signs, minus, lowest, made, pointed}
-use Rattle.number.specs.Inner.{digitsFrom}
-use Rattle.number.specs.declared.decimal.Digits.{Digits}
-use Rattle.number.specs.declared.decimal.Digits.the-variants.{Run, Many}
+use Rattle.number.specs.Decimal.{Scaled, mostWhole, mostAfter, signs, minus, lowest, judgedDecimal}
+use Rattle.number.specs.Told.{tenths}
 
 pub none-first : (s : List ℕ) → length s ≡ 0 → getD s 0 0 ≡ 0
 none-first [] h = refl
@@ -46,8 +46,24 @@ module _ (s : List ℕ) where
 
 pub ruleset sign-bytes = (minus-none, minus-is, signs-none, signs-plus, signs-minus, signs-other, needs)
 
-abbrev tenths : Bool → ℕ → ℕ → Scaled
-tenths s w t = record { negative = s; whole = w; tens = t }
+-- "at most 10 digits and at most 6 after the point; otherwise still 2"
+module _ (d : Scaled) where
+  pub judged-good : d .whole ≤ mostWhole → d .tens ≤ mostAfter → given d ≡ judgedDecimal d
+  unfolding judgedDecimal
+  judged-good h g = rw (le-leb (d .whole) mostWhole h, le-leb (d .tens) mostAfter g)
+
+  pub judged-wide : mostWhole < d .whole → refused 2 ≡ judgedDecimal d
+  unfolding judgedDecimal
+  judged-wide h = rw (lt-leb (d .whole) mostWhole h)
+
+  pub judged-long : mostAfter < d .tens → refused 2 ≡ judgedDecimal d
+  unfolding judgedDecimal
+  judged-long h = rw (lt-leb (d .tens) mostAfter h, and-false)
+
+pub tens-fit : (k : ℕ) → k ≤ mostAfter → Fits w32 k
+tens-fit k h = record { fits = omega arith }
+
+pub ruleset judges = (judged-good, judged-wide, judged-long, tens-fit, needs)
 
 module _ (neg : Bool) where
   pub lowest-at : (n t : ℕ) → (n % 10 ≡ 0 → ⊥) → 0 < t → tenths neg n t ≡ lowest neg n t
@@ -66,14 +82,14 @@ module _ (neg : Bool) where
   lowest-end n (suc t) h = absurd (omega arith)
 
   module _ (n t m k : ℕ) (q : lowest neg m k ≡ lowest neg n t) where
-    pub low-stop : (m % 10 ≡ 0 → ⊥) → 0 < k → tenths neg m k ≡ lowest neg n t
-    low-stop e h = lowest-at m k e h ∙ q
+    pub low-stop : (r : Answer Scaled) → (m % 10 ≡ 0 → ⊥) → 0 < k → r ≡ judgedDecimal (tenths neg m k) → r ≡ judgedDecimal (lowest neg n t)
+    low-stop r e h p = p ∙ ap judgedDecimal (lowest-at m k e h ∙ q)
 
     pub low-on : m % 10 ≡ 0 → 0 < k → lowest neg (m / 10) (k - 1) ≡ lowest neg n t
     low-on e h = lowest-on m k e h ∙ q
 
-    pub low-end : k ≤ 0 → tenths (neg && not (eqb m 0)) m 0 ≡ lowest neg n t
-    low-end h = lowest-end m k h ∙ q
+    pub low-end : (r : Answer Scaled) → k ≤ 0 → r ≡ judgedDecimal (tenths (neg && not (eqb m 0)) m 0) → r ≡ judgedDecimal (lowest neg n t)
+    low-end r h p = p ∙ ap judgedDecimal (lowest-end m k h ∙ q)
 
 pub ruleset lows = (low-stop, low-on, low-end, needs)
 
@@ -86,6 +102,15 @@ pub rest-drop : (l : List ℕ) → trailing l ≡ drop (length (leading l)) l
 unfolding trailing leading
 rest-drop [] = refl
 rest-drop (b ∷ l) = rest-turn (ltb (digitOf b) 10) b l (rest-drop l)
+
+some-turn : (t : Bool) (b : ℕ) (l m : List ℕ) → length m ≤ length l → length (cond t (b ∷ m) []) ≤ length (b ∷ l)
+some-turn true b l m h = omega arith
+some-turn false b l m h = omega arith
+
+pub some-first : (l : List ℕ) → length (leading l) ≤ length l
+unfolding leading
+some-first [] = omega arith
+some-first (b ∷ l) = some-turn (ltb (digitOf b) 10) b l (leading l) (some-first l)
 
 full-turn : (t : Bool) (b : ℕ) (l m : List ℕ) (a : Bool) → (a ≡ true → m ≡ l) → (t && a) ≡ true → cond t (b ∷ m) [] ≡ b ∷ l
 full-turn true b l m a ih e = ap (λ (x : List ℕ). b ∷ x) (ih e)
@@ -111,59 +136,6 @@ unfolding valueOn
 joined n [] f = refl
 joined n (b ∷ i) f = joined (n * 10 + digitOf b) i f
 
--- what `read_digits` says
-pub record Went (s : List ℕ) (at m c e k n : ℕ) : Type 0 where
-  pub place : e ≡ at + length (leading (drop at s))
-  pub count : k ≡ c + length (leading (drop at s))
-  pub value : n ≡ valueOn 10 m (leading (drop at s))
-
-went-turn : (t : Bool) (e k n e′ k′ n′ : ℕ) → Run e k n ≡ cond t (Run e′ k′ n′) Many → (e ≡ e′) × (k ≡ k′) × (n ≡ n′)
-went-turn true e k n e′ k′ n′ q = (cc, cc, cc)
-went-turn false e k n e′ k′ n′ q = let z : _≡_ {A = ℕ} 0 1 = cc in absurd (omega arith)
-
-many-turn : (t : Bool) (e k n : ℕ) → Many ≡ cond t (Run e k n) Many → t ≡ false
-many-turn true e k n q = let z : _≡_ {A = ℕ} 0 1 = cc in absurd (omega arith)
-many-turn false e k n q = refl
-
-module _ (s : List ℕ) (at m c : ℕ) (g : Digits) (q : g ≡ digitsFrom s at m c) where
-  pub went : (e k n : ℕ) → g ≡ Run e k n → Went s at m c e k n
-  unfolding digitsFrom
-  went e k n r =
-      let w = went-turn (leb (c + length (leading (drop at s))) 10) e k n (at + length (leading (drop at s))) (c + length (leading (drop at s))) (valueOn 10 m (leading (drop at s))) (sym r ∙ q) in
-      record { place = w .0; count = w .1; value = w .2 }
-
-  pub too-many : g ≡ Many → 10 < c + length (leading (drop at s))
-  unfolding digitsFrom
-  too-many r = leb-false (c + length (leading (drop at s))) 10
-      (many-turn (leb (c + length (leading (drop at s))) 10) (at + length (leading (drop at s))) (c + length (leading (drop at s))) (valueOn 10 m (leading (drop at s))) (sym r ∙ q))
-
 pub both-same : (t : Bool) (a b x : Answer Scaled) → x ≡ a → x ≡ b → x ≡ cond t a b
 both-same true a b x p q = p
 both-same false a b x p q = q
-
-module _ (neg : Bool) (i : List ℕ) where
-  pub made-many : (f : List ℕ) → 10 < length i + length f → refused 2 ≡ made neg i f
-  unfolding made
-  made-many f h = rw (lt-leb (length i + length f) 10 h, and-false)
-
-  pub made-none : (f : List ℕ) → length i ≡ 0 → refused 2 ≡ made neg i f
-  unfolding made
-  made-none f h = rw h
-
-  pub made-past : (f : List ℕ) → 6 < length f → refused 2 ≡ made neg i f
-  unfolding made
-  made-past f h = rw (lt-leb (length f) 6 h, and-false)
-
-  pub made-good : (f : List ℕ) → 0 < length i → length i + length f ≤ 10 → length f ≤ 6 → given (lowest neg (valueOn 10 0 (i ++ f)) (length f)) ≡ made neg i f
-  unfolding made
-  made-good f h g l = rw (le-leb 1 (length i) h, le-leb (length i + length f) 10 g, le-leb (length f) 6 l)
-
-  pub pointed-many : (r : List ℕ) → 10 < length i → refused 2 ≡ pointed neg i r
-  unfolding pointed
-  pointed-many [] h = made-many [] (omega arith)
-  pointed-many (b ∷ f) h = both-same (eqb b 46 && allDigits 10 f && leb 1 (length f)) (made neg i f) (refused 2) (refused 2) (made-many f (omega arith)) refl
-
-  pub pointed-none : (r : List ℕ) → length i ≡ 0 → refused 2 ≡ pointed neg i r
-  unfolding pointed
-  pointed-none [] h = made-none [] h
-  pointed-none (b ∷ f) h = both-same (eqb b 46 && allDigits 10 f && leb 1 (length f)) (made neg i f) (refused 2) (refused 2) (made-none f h) refl

@@ -4,22 +4,22 @@ use native.Mathlib.Nat.{pow-suc, pow-le-pow-right, mul-assoc, mul-comm}
 use native.Mathlib.Omega.{arith}
 use mathlib.Core.Path.{_≡_, refl, sym, _∙_, ap}
 use mathlib.Core.List.{List, [], _∷_, _++_}
-use mathlib.Core.Bool.{Bool, true, false, not, cond, _&&_}
+use mathlib.Core.Bool.{Bool, true, false, cond, _&&_}
 use borrow.Author.Tests.{leb-true, ltb-true, eqb-true, eqb-false}
 use lib.Dec.{eqb, ltb, leb}
 use lib.ListN.{length, take, drop, getD, length-append}
 use Rattle.number.specs.Answer.{Answer, given, refused, inRun}
 use Rattle.number.specs.Digits.{digitOf, leading, trailing, valueOn, allDigits}
 use Rattle.number.specs.Whole.{wholeFrom, wholeOf}
-use Rattle.number.specs.Decimal.{Scaled, Form, signs, minus, lowest, made, pointed, decimalOf}
+use Rattle.number.specs.Decimal.{Scaled, Form, mostDigits, mostAfter, mostWhole, signs, minus, lowest, made, isExponent, pointMoved, judgedDecimal, movedDecimal, pointed, signedBy, plainOf, mantissa, fromE, withExponent, decimalOf}
 
-both : (a b : Bool) → (a && b) ≡ true → (a ≡ true) × (b ≡ true)
+pub both : (a b : Bool) → (a && b) ≡ true → (a ≡ true) × (b ≡ true)
 both true b h = (refl, h)
 both false b h = let z : _≡_ {A = ℕ} 0 1 = cc in absurd (omega arith)
 
 -- where an answer is given, the test before it held
 module _ {A : Type 0} (d : A) where
-  held : (t : Bool) (x : Answer A) → given d ≡ cond t x (refused 2) → (t ≡ true) × (given d ≡ x)
+  pub held : (t : Bool) (x : Answer A) → given d ≡ cond t x (refused 2) → (t ≡ true) × (given d ≡ x)
   held true x q = (refl, q)
   held false x q = let z : _≡_ {A = ℕ} 0 1 = cc in absurd (omega arith)
 
@@ -40,7 +40,7 @@ unfolding allDigits
 first-turn true b l e h = rw (e, h)
 first-turn false b l e h = refl
 
-first-digits : (l : List ℕ) → allDigits 10 (leading l) ≡ true
+pub first-digits : (l : List ℕ) → allDigits 10 (leading l) ≡ true
 unfolding leading allDigits
 first-digits [] = refl
 first-digits (b ∷ l) = first-turn (ltb (digitOf b) 10) b (leading l) refl (first-digits l)
@@ -66,34 +66,64 @@ lower neg n zero = record { whole-low = omega arith; tens-low = omega arith }
 lower neg n (suc t) = lower-turn neg n t (eqb (n % 10) 0) (lower neg (n / 10) t)
 
 module _ (d : Scaled) (neg : Bool) (i : List ℕ) (first : allDigits 10 i ≡ true) where
-  made-form : (f : List ℕ) → allDigits 10 f ≡ true → given d ≡ made neg i f → Form d
+  pub made-form : (f : List ℕ) → allDigits 10 f ≡ true → given d ≡ made neg i f → Form d
   unfolding made
   made-form f g q =
       let n = valueOn 10 0 (i ++ f) in
-      let h = held d (leb 1 (length i) && leb (length i + length f) 10 && leb (length f) 6) (given (lowest neg n (length f))) q in
-      let p = both (leb 1 (length i) && leb (length i + length f) 10) (leb (length f) 6) (h .0) in
-      let r = both (leb 1 (length i)) (leb (length i + length f) 10) (p .0) in
+      let h = held d (leb 1 (length i) && leb (length i + length f) mostDigits && leb (length f) mostAfter) (given (lowest neg n (length f))) q in
+      let p = both (leb 1 (length i) && leb (length i + length f) mostDigits) (leb (length f) mostAfter) (h .0) in
+      let r = both (leb 1 (length i)) (leb (length i + length f) mostDigits) (p .0) in
       let e : d ≡ lowest neg n (length f) = cc (h .1) in
       let l = lower neg n (length f) in
       let z : 0 < 10 ^ 0 = omega arith in
       let k = length-append i f in
-      let c : 0 + length (i ++ f) ≤ 10 = omega (arith, leb-true (length i + length f) 10 (r .1)) in
+      let c : 0 + length (i ++ f) ≤ 10 = omega (arith, leb-true (length i + length f) mostDigits (r .1)) in
       let s = below 0 0 (i ++ f) (both-digits i f first g) z in
       let w : 10 ^ (0 + length (i ++ f)) ≤ 10 ^ 10 = pow-le-pow-right (omega arith) c in
-      rw e (record { whole-most = omega (arith, l .whole-low); tens-most = omega (arith, l .tens-low, leb-true (length f) 6 (p .1)) })
+      rw e (record { whole-most = omega (arith, l .whole-low); tens-most = omega (arith, l .tens-low, leb-true (length f) mostAfter (p .1)) })
 
-  pointed-form : (r : List ℕ) → given d ≡ pointed neg i r → Form d
+judged-form : (d e : Scaled) → given d ≡ judgedDecimal e → Form d
+unfolding judgedDecimal
+judged-form d e q =
+    let h = held d (leb (e .whole) mostWhole && leb (e .tens) mostAfter) (given e) q in
+    let p = both (leb (e .whole) mostWhole) (leb (e .tens) mostAfter) (h .0) in
+    let z : d ≡ e = cc (h .1) in
+    rw z (record { whole-most = leb-true (e .whole) mostWhole (p .0); tens-most = leb-true (e .tens) mostAfter (p .1) })
+
+module _ (d : Scaled) where
+  moved-form : (x : List ℕ) (neg : Bool) (i f : List ℕ) → given d ≡ movedDecimal x neg i f → Form d
+  unfolding movedDecimal
+  moved-form x neg i f q =
+      let e = pointMoved neg (valueOn 10 0 (i ++ f)) (length f) x in
+      judged-form d e (held d (leb 1 (length i) && isExponent x) (judgedDecimal e) q .1)
+
+  pointed-form : (how : List ℕ → List ℕ → Answer Scaled) (i : List ℕ) → ((f : List ℕ) → allDigits 10 f ≡ true → given d ≡ how i f → Form d) →
+      (r : List ℕ) → given d ≡ pointed how i r → Form d
   unfolding pointed allDigits
-  pointed-form [] q = made-form [] refl q
-  pointed-form (b ∷ f) q =
-      let h = held d (eqb b 46 && allDigits 10 f && leb 1 (length f)) (made neg i f) q in
+  pointed-form how i g [] q = g [] refl q
+  pointed-form how i g (b ∷ f) q =
+      let h = held d (eqb b 46 && allDigits 10 f && leb 1 (length f)) (how i f) q in
       let p = both (eqb b 46 && allDigits 10 f) (leb 1 (length f)) (h .0) in
-      made-form f (both (eqb b 46) (allDigits 10 f) (p .0) .1) (h .1)
+      g f (both (eqb b 46) (allDigits 10 f) (p .0) .1) (h .1)
+
+  plain-form : (s : List ℕ) → given d ≡ plainOf s → Form d
+  unfolding plainOf signedBy
+  plain-form s q =
+      let i = leading (drop (signs s) s) in
+      pointed-form (made (minus s)) i (made-form d (minus s) i (first-digits (drop (signs s) s))) (trailing (drop (signs s) s)) q
+
+  exponent-form : (s r : List ℕ) → given d ≡ withExponent s r → Form d
+  unfolding withExponent signedBy
+  exponent-form s [] q = plain-form s q
+  exponent-form s (e ∷ x) q =
+      let m = mantissa s in
+      let i = leading (drop (signs m) m) in
+      pointed-form (movedDecimal x (minus m)) i (λ f g. moved-form x (minus m) i f) (trailing (drop (signs m) m)) q
 
 -- every decimal that is read has ten digits at most, six of them after the point
 pub decimal-form : (s : List ℕ) (d : Scaled) → given d ≡ decimalOf s → Form d
 unfolding decimalOf
-decimal-form s d q = pointed-form d (minus s) (leading (drop (signs s) s)) (first-digits (drop (signs s) s)) (trailing (drop (signs s) s)) q
+decimal-form s d q = exponent-form d s (fromE s) q
 
 module _ (most n : ℕ) where
   from-most : (base : ℕ) (ds : List ℕ) → given n ≡ wholeFrom base most ds → n ≤ most
@@ -163,16 +193,36 @@ module _ (k : ℕ) where
   made-refused : (neg : Bool) (i f : List ℕ) → refused k ≡ made neg i f → k ≡ 2
   unfolding made
   made-refused neg i f q =
-      two k (leb 1 (length i) && leb (length i + length f) 10 && leb (length f) 6) (given (lowest neg (valueOn 10 0 (i ++ f)) (length f))) (not-given k (lowest neg (valueOn 10 0 (i ++ f)) (length f))) q
+      two k (leb 1 (length i) && leb (length i + length f) mostDigits && leb (length f) mostAfter) (given (lowest neg (valueOn 10 0 (i ++ f)) (length f))) (not-given k (lowest neg (valueOn 10 0 (i ++ f)) (length f))) q
 
-  pointed-refused : (neg : Bool) (i r : List ℕ) → refused k ≡ pointed neg i r → k ≡ 2
+  judged-refused : (d : Scaled) → refused k ≡ judgedDecimal d → k ≡ 2
+  unfolding judgedDecimal
+  judged-refused d q = two k (leb (d .whole) mostWhole && leb (d .tens) mostAfter) (given d) (not-given k d) q
+
+  moved-refused : (x : List ℕ) (neg : Bool) (i f : List ℕ) → refused k ≡ movedDecimal x neg i f → k ≡ 2
+  unfolding movedDecimal
+  moved-refused x neg i f q =
+      let e = pointMoved neg (valueOn 10 0 (i ++ f)) (length f) x in
+      two k (leb 1 (length i) && isExponent x) (judgedDecimal e) (judged-refused e) q
+
+  pointed-refused : (how : List ℕ → List ℕ → Answer Scaled) (i : List ℕ) → ((f : List ℕ) → refused k ≡ how i f → k ≡ 2) → (r : List ℕ) → refused k ≡ pointed how i r → k ≡ 2
   unfolding pointed
-  pointed-refused neg i [] q = made-refused neg i [] q
-  pointed-refused neg i (b ∷ f) q = two k (eqb b 46 && allDigits 10 f && leb 1 (length f)) (made neg i f) (made-refused neg i f) q
+  pointed-refused how i g [] q = g [] q
+  pointed-refused how i g (b ∷ f) q = two k (eqb b 46 && allDigits 10 f && leb 1 (length f)) (how i f) (g f) q
+
+  exponent-refused : (s r : List ℕ) → refused k ≡ withExponent s r → k ≡ 2
+  unfolding withExponent plainOf signedBy
+  exponent-refused s [] q =
+      let i = leading (drop (signs s) s) in
+      pointed-refused (made (minus s)) i (made-refused (minus s) i) (trailing (drop (signs s) s)) q
+  exponent-refused s (e ∷ x) q =
+      let m = mantissa s in
+      let i = leading (drop (signs m) m) in
+      pointed-refused (movedDecimal x (minus m)) i (moved-refused x (minus m) i) (trailing (drop (signs m) m)) q
 
   pub decimal-refused : (s : List ℕ) → refused k ≡ decimalOf s → k ≡ 2
   unfolding decimalOf
-  decimal-refused s q = pointed-refused (minus s) (leading (drop (signs s) s)) (trailing (drop (signs s) s)) q
+  decimal-refused s q = exponent-refused s (fromE s) q
 
   from-refused : (base most : ℕ) (ds : List ℕ) → refused k ≡ wholeFrom base most ds → k ≡ 2
   unfolding wholeFrom

@@ -6,8 +6,8 @@ ghost use lib.ListN.{length};
 ghost use Rattle.number.specs.Digits.{allDigits};
 ghost use Rattle.number.specs.Form.{formed, hasForm};
 use crate::whole::whole_of;
+use decimals::decimal_of;
 use number::decimal::DecimalAnswer;
-use number::decimal::decimal_of;
 use number::digits::digit_of;
 use number::whole::WholeAnswer;
 

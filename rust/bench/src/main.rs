@@ -127,6 +127,35 @@ fn shared_axes(first: bool) -> Subject {
     Subject { what, rows: Rows::Find, text: module(&body), image: vec![7; 4096] }
 }
 
+/// 512 objects whose MaxDiff and limits have exponents.
+fn exponents() -> Subject {
+    const NUMBERS: [[&str; 3]; 4] = [
+        ["0E0", "5e-1", "1.2E3"],
+        ["5E-2", "-1.44E+1", "65e0"],
+        ["1e-6", "0e0", "65.535E0"],
+        ["2.5e-01", "-4E1", "1440e-02"],
+    ];
+    let mut body = String::from(COMMON);
+    for number in 0..512 {
+        let [diff, lower, upper] = NUMBERS[number % NUMBERS.len()];
+        let head = format!("/begin CHARACTERISTIC V{number} \"\" VALUE {} L {diff}", 2 * number);
+        body += &format!("{head} C {lower} {upper} /end CHARACTERISTIC\n");
+    }
+    Subject { what: "512 objects, limits with exponents", rows: Rows::Load, text: module(&body), image: vec![7; 1024] }
+}
+
+/// One limit of 1 MiB, zeros before and behind its digits.
+fn long_number() -> Subject {
+    let zeros = "0".repeat(1 << 19);
+    let object = format!("/begin CHARACTERISTIC V \"\" VALUE 0 L 0 C 0 {zeros}6.5{zeros}E+1 /end CHARACTERISTIC\n");
+    Subject {
+        what: "a limit of 1 MiB",
+        rows: Rows::Load,
+        text: module(&(COMMON.to_string() + &object)),
+        image: vec![7; 2],
+    }
+}
+
 /// The proved reader's load.
 fn load(subject: &Subject, lent: &mut Lent) -> u64 {
     // SAFETY: every pointer is a vector's with its own length.
@@ -431,4 +460,6 @@ fn main() {
     times(seconds, other_beginnings());
     times(seconds, shared_axes(true));
     times(seconds, shared_axes(false));
+    times(seconds, exponents());
+    times(seconds, long_number());
 }

@@ -7,7 +7,7 @@ use crate::large::{large, KINDS};
 use crate::lent::Lent;
 use crate::requests::*;
 use crate::rng::Rng;
-use crate::token::render;
+use crate::token::{render, take_exponents_out};
 use obarsivel::raw;
 use plain::{Line, Refusal};
 use std::time::Instant;
@@ -33,6 +33,9 @@ pub struct Stats {
     pub damaged_answers: Counts,
     /// How often each aim of damage was answered by the rule, and not with 20.
     pub aimed: [u64; AIMS.len()],
+    /// Loads and writes made again with the same numbers without exponents.
+    pub loads_without: u64,
+    pub writes_without: u64,
     pub short_calls: u64,
     pub elements: u64,
 }
@@ -49,6 +52,8 @@ pub struct Run {
 #[derive(Default)]
 pub struct Subject {
     pub text: Vec<u8>,
+    /// The same description without exponents, everything at the same place; sometimes, where it has some.
+    pub without: Option<Vec<u8>>,
     pub image: Vec<u8>,
     pub base: u32,
     pub requests: Vec<String>,
@@ -59,14 +64,14 @@ fn subject(seed: u64, rng: &mut Rng) -> Subject {
     let at = seed % ROUND;
     if at < KINDS {
         let made = large(at, rng);
-        return Subject { text: made.text, image: made.image, base: made.base, requests: Vec::new() };
+        return Subject { text: made.text, image: made.image, base: made.base, ..Subject::default() };
     }
     let mut made = make(rng);
     let word = at.wrapping_sub(WORDS_FROM);
     if word < plain::WORDS.len() as u64 {
         put_word(&mut made, word as usize, rng);
         let text = render(&made.tokens, false, rng);
-        return Subject { text, image: made.image, base: made.base, requests: Vec::new() };
+        return Subject { text, image: made.image, base: made.base, ..Subject::default() };
     }
     let how = rng.below(20);
     if (8..16).contains(&how) {
@@ -78,13 +83,16 @@ fn subject(seed: u64, rng: &mut Rng) -> Subject {
         damage_image(&mut made, rng);
     }
     let wild = rng.one_in(2);
+    let whole = !(8..18).contains(&how);
+    let others = if whole && rng.one_in(4) { take_exponents_out(&mut made.tokens) } else { None };
+    let without = others.map(|others| render(&others, wild, &mut rng.clone()));
     let mut text = render(&made.tokens, wild, rng);
     if matches!(how, 16 | 17) {
         for _ in 0..rng.pick(&[1, 1, 2, 4]) {
             damage_text(&mut text, rng);
         }
     }
-    Subject { text, image: made.image, base: made.base, requests: Vec::new() }
+    Subject { text, without, image: made.image, base: made.base, requests: Vec::new() }
 }
 
 impl Run {
@@ -102,7 +110,7 @@ impl Run {
     pub fn case(&mut self, seed: u64, subject_out: &mut Subject) -> Result<(), String> {
         let mut rng = Rng::new(seed);
         *subject_out = subject(seed, &mut rng);
-        let Subject { text, image, base, requests } = subject_out;
+        let Subject { text, without, image, base, requests } = subject_out;
         let expected = plain::load(text, image, *base);
         self.stats.loads += 1;
         self.stats.load_answers[expected.as_ref().err().map_or(0, |it| it.number as usize)] += 1;
@@ -111,6 +119,10 @@ impl Run {
         self.work.lend(raw::WORK_CELLS + extra);
         requests.push(format!("Load with {extra} cells more"));
         self.load(text, image, *base, &expected, rng.next())?;
+        if let Some(without) = without {
+            requests.push("Load without exponents".to_string());
+            self.load_without(without, image, *base, &expected).inspect_err(|_| text.clone_from(without))?;
+        }
         if rng.one_in(16) {
             requests.push("Load with tables or work one too short".to_string());
             self.short_load(text, image, *base, rng.one_in(2))?;
@@ -183,6 +195,23 @@ impl Run {
             Some(at) => Err(format!("work cell {at} is not zero after a load")),
             None => Ok(()),
         }
+    }
+
+    /// Loads a description whose exponents are taken out: both readers answer as they do with them, cell by cell.
+    fn load_without(
+        &mut self,
+        text: &[u8],
+        image: &[u8],
+        base: u32,
+        expected: &Result<Vec<u64>, Refusal>,
+    ) -> Result<(), String> {
+        self.stats.loads_without += 1;
+        let found = plain::load(text, image, base);
+        if found != *expected {
+            let (found, expected) = (found.err(), expected.as_ref().err());
+            return Err(format!("the plain reader without exponents: {found:?}, with them {expected:?}"));
+        }
+        self.load(text, image, base, expected, 4).map_err(|why| format!("without exponents: {why}"))
     }
 
     /// Where the loads of a subject differ: a text made smaller in which they still do.
@@ -293,7 +322,7 @@ impl Run {
                 requests.push(format!("line {at} set to {line:?}"));
                 both.put_line(at, line);
             }
-            let call = write(&cells, &all, rng);
+            let (call, without) = write(&cells, &all, rng);
             requests.push(format!("{call:?}"));
             let answer = both.call(&call, &cells).map_err(|why| format!("{call:?}: {why}"))?;
             self.stats.writes += 1;
@@ -301,6 +330,10 @@ impl Run {
                 self.stats.raw_answers[answer as usize] += 1;
             } else {
                 self.stats.physical_answers[answer as usize] += 1;
+            }
+            if let Some(without) = without {
+                requests.push(format!("{without:?}"));
+                self.write_without(&mut both, &without, &cells, answer).map_err(|why| format!("{without:?}: {why}"))?;
             }
         }
         self.other(&mut both, Call::MakeList, &cells, requests)?;
@@ -317,6 +350,20 @@ impl Run {
         let mut both = Both::new(text, &image, base, lines);
         requests.push(format!("image of {} bytes, list of 4100 lines, base {base:#x}", image.len()));
         self.damaged_calls(&mut both, &mut cells, &all, &names, requests, rng)
+    }
+
+    /// Makes a write again whose exponent is taken out: the same answer, and nothing is changed any more.
+    fn write_without(&mut self, both: &mut Both, call: &Call, cells: &[u64], answer: u8) -> Result<(), String> {
+        self.stats.writes_without += 1;
+        let before = (both.image.clone(), both.lines.clone());
+        let again = both.call(call, cells)?;
+        if again != answer {
+            return Err(format!("answers {again}, with an exponent {answer}"));
+        }
+        if (&both.image, &both.lines) != (&before.0, &before.1) {
+            return Err("stores another value than with an exponent".to_string());
+        }
+        Ok(())
     }
 
     /// Calls with tables of which one cell or a few are changed.

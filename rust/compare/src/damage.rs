@@ -1,6 +1,7 @@
 //! Damage: to tokens, to the text's bytes, to the image and its base address.
 use crate::generate::{string, Made};
 use crate::rng::Rng;
+use crate::spell::{edge, with_exponent};
 use crate::token::{token, Kind, Token};
 
 /// Bytes that are no token, or none that fits.
@@ -38,7 +39,7 @@ const JUNK: [&[u8]; 30] = [
 ];
 
 /// Keywords with parameters and blocks that fit some places and not others.
-pub const GROUPS: [&str; 34] = [
+pub const GROUPS: [&str; 44] = [
     "READ_ONLY",
     "BYTE_ORDER MSB_FIRST",
     "BYTE_ORDER MSB_LAST",
@@ -50,10 +51,19 @@ pub const GROUPS: [&str; 34] = [
     "BIT_MASK 4294967296",
     "NUMBER 2",
     "NUMBER 4097",
+    "BIT_MASK 1e0",
+    "NUMBER 2E0",
+    "ECU_ADDRESS 4096e0",
+    "ALIGNMENT_WORD 2e0",
+    "A2ML_VERSION 1 6.1E1",
+    "FORMAT 1e3",
     "AXIS_PTS_REF A",
     "COEFFS 0 1 0 0 0 1",
     "COEFFS 1 1 0 0 0 1",
     "COEFFS_LINEAR 1 0",
+    "COEFFS 0e5 1E3 0 -0E-9 0 1",
+    "COEFFS 1e-6 1 0 0 0 1",
+    "COEFFS_LINEAR 5e-1 -4E+1",
     "COMPU_TAB_REF A",
     "DEFAULT_VALUE \"d\"",
     "ECU_ADDRESS 0x1000",
@@ -67,6 +77,7 @@ pub const GROUPS: [&str; 34] = [
     "FORMAT 5",
     "ASAP2_VERSION 1 70000",
     "/begin AXIS_DESCR STD_AXIS NO_INPUT_QUANTITY NO_COMPU_METHOD 2 0 1 /end AXIS_DESCR",
+    "/begin AXIS_DESCR STD_AXIS NO_INPUT_QUANTITY NO_COMPU_METHOD 2 -5e-1 1.44E1 /end AXIS_DESCR",
     "/begin MOD_COMMON \"\" /end MOD_COMMON",
     "/begin MODULE M2 \"\" /end MODULE",
     "/begin UNIT",
@@ -86,7 +97,7 @@ pub fn damage_tokens(made: &mut Made, rng: &mut Rng) {
     if made.tokens.is_empty() {
         return;
     }
-    match rng.below(22) {
+    match rng.below(26) {
         0 => drop(made.tokens.remove(rng.place(made.tokens.len()))),
         1 => {
             let at = rng.place(made.tokens.len());
@@ -108,12 +119,12 @@ pub fn damage_tokens(made: &mut Made, rng: &mut Rng) {
         }
         5 => {
             let at = rng.place(made.tokens.len());
-            made.tokens[at].bytes = rng.pick(&JUNK).to_vec();
+            made.tokens[at].bytes = junk(rng);
         }
         6 => {
             let at = rng.place(made.tokens.len() + 1);
             let bytes = match rng.below(4) {
-                0 => rng.pick(&JUNK).to_vec(),
+                0 => junk(rng),
                 1 => string(rng),
                 2 => b"5".to_vec(),
                 _ => plain::WORDS[rng.place(plain::WORDS.len())].0.as_bytes().to_vec(),
@@ -160,7 +171,19 @@ pub fn damage_tokens(made: &mut Made, rng: &mut Rng) {
                 made.tokens[at].bytes = rng.pick(&["256", "257", "4096", "4097", "65535"]).as_bytes().to_vec();
             }
         }
+        18 | 19 => edit_decimal(made, rng),
+        20 => put_exponent(made, rng),
+        21 => entry_again(made, rng),
         _ => edit_number(made, rng),
+    }
+}
+
+/// Bytes that are no token, or none that fits; often a run with an exponent.
+fn junk(rng: &mut Rng) -> Vec<u8> {
+    if rng.one_in(3) {
+        edge(rng).into_bytes()
+    } else {
+        rng.pick(&JUNK).to_vec()
     }
 }
 
@@ -255,6 +278,51 @@ fn remove_group(made: &mut Made, rng: &mut Rng) {
     made.tokens.drain(from..past);
 }
 
+/// Kinds of tokens that are whole numbers.
+const WHOLE: [Kind; 8] =
+    [Kind::Position, Kind::Points, Kind::Number, Kind::Uint, Kind::Address, Kind::Mask, Kind::Align, Kind::Pairs];
+
+/// Puts a run with an exponent where a decimal stands, at an edge of what is read or of what the place takes.
+fn edit_decimal(made: &mut Made, rng: &mut Rng) {
+    const KINDS: [Kind; 5] = [Kind::Lower, Kind::Upper, Kind::Decimal, Kind::Coeff, Kind::Entry];
+    let wanted = rng.pick(&KINDS);
+    let at = of_kind(&made.tokens, if rng.one_in(3) { &KINDS } else { std::slice::from_ref(&wanted) }, rng);
+    let some: &[&str] = match made.tokens[at].kind {
+        Kind::Lower => &["1e3", "0e9", "-1E9", "9999999999e0", "5e-1", "1E-6", "1e-7", "10e-7"],
+        Kind::Upper => &["1e3", "-0e9", "-1E+9", "-9999999999e0", "5e-1", "-1E-6", "1e10", "0.0000001e1"],
+        Kind::Coeff => &["0e5", "-0E-9", "1e-6", "-1E-06", "1e9", "1000000001e0", "1e-7", "25E-2", "1e3", "0e100"],
+        Kind::Entry => &["1e1", "10", "1E0", "5e-1", "0.5e1", "-0E-9", "9999999999e0", "1e10", "10e-1", "1e-6"],
+        _ => &["1e3", "0e99", "1e-6", "1e-7", "-1E+0", "1e10"],
+    };
+    let text = if rng.one_in(2) { edge(rng) } else { rng.pick(some).to_string() };
+    made.tokens[at].bytes = text.into_bytes();
+}
+
+/// Puts a number with an exponent where a whole number is wanted, or where no number is.
+fn put_exponent(made: &mut Made, rng: &mut Rng) {
+    let at = if rng.one_in(2) { of_kind(&made.tokens, &WHOLE, rng) } else { rng.place(made.tokens.len()) };
+    let value = rng.pick(&[0, 1, 2, 4, 8, 61, 255, 4096, -1]);
+    let bytes = if rng.one_in(4) { edge(rng) } else { with_exponent(value, 0, rng) }.into_bytes();
+    if rng.one_in(3) {
+        made.tokens.insert(at, token(Kind::Item, bytes));
+    } else {
+        made.tokens[at].bytes = bytes;
+    }
+}
+
+/// Lets a verbal entry's number stand again, with an exponent.
+fn entry_again(made: &mut Made, rng: &mut Rng) {
+    let at = of_kind(&made.tokens, &[Kind::Entry], rng);
+    let token = &made.tokens[at];
+    let text = String::from_utf8_lossy(token.without.as_ref().unwrap_or(&token.bytes)).into_owned();
+    let Some(Ok(number)) = text.split('.').next().map(str::parse) else {
+        return;
+    };
+    let next = (at + 1..made.tokens.len()).find(|&next| made.tokens[next].kind == Kind::Entry);
+    let other = next.unwrap_or_else(|| of_kind(&made.tokens, &[Kind::Entry], rng));
+    made.tokens[other].bytes = with_exponent(number, 0, rng).into_bytes();
+}
+
 /// Puts a number at or past a bound of its kind.
 fn edit_number(made: &mut Made, rng: &mut Rng) {
     const NUMBERS: [Kind; 18] = [
@@ -314,7 +382,7 @@ fn edit_number(made: &mut Made, rng: &mut Rng) {
         Kind::Address => &["4294967296", "0x100000000", "-1", "1.0", ""],
         _ => &["0", "12345678901", "1.1234567", "1.123456", "-5", "0x5", "1e3"],
     };
-    const ODD_WHOLE: [&str; 16] = [
+    const ODD_WHOLE: [&str; 20] = [
         "0x123456789",
         "0x012345678",
         "0xFFFFFFFF",
@@ -331,6 +399,10 @@ fn edit_number(made: &mut Made, rng: &mut Rng) {
         "1_000",
         "5]",
         "0x1.0",
+        "1e3",
+        "1E0",
+        "20e-1",
+        "0x1e3",
     ];
     const ODD_DECIMAL: [&str; 16] = [
         "5.",
@@ -350,17 +422,7 @@ fn edit_number(made: &mut Made, rng: &mut Rng) {
         "-.5",
         "5/",
     ];
-    let is_whole = matches!(
-        made.tokens[at].kind,
-        Kind::Position
-            | Kind::Points
-            | Kind::Number
-            | Kind::Uint
-            | Kind::Address
-            | Kind::Mask
-            | Kind::Align
-            | Kind::Pairs
-    );
+    let is_whole = WHOLE.contains(&made.tokens[at].kind);
     let text = if rng.one_in(4) {
         rng.pick(if is_whole { &ODD_WHOLE } else { &ODD_DECIMAL }).to_string()
     } else if made.tokens[at].kind == Kind::Address && !rng.one_in(4) {
@@ -386,7 +448,7 @@ pub fn damage_text(text: &mut Vec<u8>, rng: &mut Rng) {
         4 => drop(text.remove(at)),
         5 => text.insert(at, rng.pick(b" \"/*\\\n;.5Ab\x80\0")),
         6 => {
-            let junk = rng.pick(&JUNK);
+            let junk = junk(rng);
             text.extend(b" ");
             text.extend(junk);
         }

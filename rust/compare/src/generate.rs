@@ -1,5 +1,6 @@
 //! Descriptions made at random, with images that fit them.
 use crate::rng::Rng;
+use crate::spell::{decimal, spelled, with_exponent};
 use crate::token::*;
 use std::collections::HashSet;
 
@@ -67,6 +68,7 @@ struct Maker<'r> {
     noise: u64,
     overlap: u64,
     slips: u64,
+    exponents: u64,
 }
 
 /// The words of document 000, as names and items.
@@ -112,32 +114,6 @@ fn whole(value: u64, rng: &mut Rng) -> String {
     }
 }
 
-/// A decimal in its shortest spelling: a whole number over a power of ten.
-pub fn decimal(value: i64, power: u32) -> String {
-    let sign = if value < 0 { "-" } else { "" };
-    let size = value.unsigned_abs();
-    if power == 0 {
-        return format!("{sign}{size}");
-    }
-    let ten = 10u64.pow(power);
-    format!("{sign}{}.{:0width$}", size / ten, size % ten, width = power as usize)
-}
-
-/// A decimal in one of its spellings.
-fn spelled(value: i64, power: u32, rng: &mut Rng) -> String {
-    let plain = decimal(value, power);
-    let digits = plain.bytes().filter(u8::is_ascii_digit).count();
-    match rng.below(16) {
-        0 if value >= 0 => format!("+{plain}"),
-        1 if value >= 0 && digits <= 8 => format!("00{plain}"),
-        2 if power == 0 && digits <= 8 => format!("{plain}.00"),
-        3 if power > 0 && power < 6 && digits < 10 => format!("{plain}0"),
-        4 if value == 0 && power == 0 => "-0".to_string(),
-        5 if value == 0 && power == 0 => "-0.000".to_string(),
-        _ => plain,
-    }
-}
-
 /// A coefficient: a whole number over a power of ten.
 fn coefficient(rng: &mut Rng) -> (i64, u32) {
     const SOME: [(i64, u32); 18] = [
@@ -180,6 +156,7 @@ pub fn make(rng: &mut Rng) -> Made {
     let noise = rng.pick(&[4, 8, 30, 1000]);
     let overlap = rng.pick(&[2, 6, 6, 20]);
     let slips = rng.pick(&[40, 400, 100_000, 100_000]);
+    let exponents = rng.pick(&[1, 2, 2, 4, 100_000]);
     let mut maker = Maker {
         rng,
         objects: HashSet::new(),
@@ -197,6 +174,7 @@ pub fn make(rng: &mut Rng) -> Made {
         noise,
         overlap,
         slips,
+        exponents,
     };
     maker.module();
     let tokens = maker.file();
@@ -260,9 +238,21 @@ impl Maker<'_> {
         token(kind, whole(value, self.rng))
     }
 
-    /// A decimal token.
-    fn decimal(&mut self, kind: Kind, value: (i64, u32)) -> Token {
-        token(kind, spelled(value.0, value.1, self.rng))
+    /// A decimal token, with an exponent or without.
+    fn decimal(&mut self, kind: Kind, (value, power): (i64, u32)) -> Token {
+        if self.rng.one_in(self.exponents) {
+            let bytes = with_exponent(value, power, self.rng).into_bytes();
+            return Token { kind, bytes, without: Some(decimal(value, power).into_bytes()) };
+        }
+        token(kind, spelled(value, power, self.rng))
+    }
+
+    /// A MaxDiff or an Accuracy, which say nothing.
+    fn said(&mut self) -> Token {
+        const SOME: [(i64, u32); 8] =
+            [(0, 0), (0, 0), (5, 1), (1, 6), (-1, 0), (9_999_999_999, 0), (-9_999_999_999, 6), (100, 0)];
+        let value = self.rng.pick(&SOME);
+        self.decimal(Kind::Decimal, value)
     }
 
     /// Two limit tokens in order.
@@ -535,7 +525,7 @@ impl Maker<'_> {
         for _ in 0..self.rng.below(6) {
             let number = match self.rng.below(4) {
                 0 => self.rng.below(256) as i64,
-                1 => self.rng.pick(&[-1, -128, 255, 65535, 9_999_999_999, -9_999_999_999, 4_294_967_295]),
+                1 => self.rng.pick(&[-1, -128, 10, 100, 255, 65535, 9_999_999_999, -9_999_999_999, 4_294_967_295]),
                 _ => self.rng.below(6) as i64,
             };
             numbers.insert(number);
@@ -567,13 +557,12 @@ impl Maker<'_> {
             0 => "IDENTICAL",
             1 | 2 => {
                 let mut group = vec![keyword("COEFFS_LINEAR")];
-                for _ in 0..2 {
-                    let value = coefficient(self.rng);
-                    group.push(self.decimal(Kind::Coeff, value));
+                let (mut first, second) = (coefficient(self.rng), coefficient(self.rng));
+                if first.0 == 0 && !self.rng.one_in(8) {
+                    first = (5, 1);
                 }
-                if group[1].bytes == b"0" && !self.rng.one_in(8) {
-                    group[1].bytes = b"0.5".to_vec();
-                }
+                group.push(self.decimal(Kind::Coeff, first));
+                group.push(self.decimal(Kind::Coeff, second));
                 groups.push(group);
                 "LINEAR"
             }
@@ -780,7 +769,7 @@ impl Maker<'_> {
         let data = self.rng.pick(&TYPES);
         let mut inside = vec![token(Kind::Def, &name), self.text(), choice(data.0), self.conversion()];
         inside.push(self.whole(Kind::Uint, 1));
-        inside.push(self.decimal(Kind::Decimal, (5, 1)));
+        inside.push(self.said());
         inside.extend(self.limits());
         let mut groups = Vec::new();
         self.byte_order(&mut groups);
@@ -819,7 +808,7 @@ impl Maker<'_> {
         let mut inside = vec![token(Kind::Def, &name), self.text(), self.whole(Kind::Address, address)];
         inside.push(self.quantity());
         inside.push(token(Kind::Deposit, &layout.name));
-        inside.push(self.decimal(Kind::Decimal, (0, 0)));
+        inside.push(self.said());
         inside.push(self.conversion());
         inside.push(self.whole(Kind::Points, most));
         inside.extend(self.limits());
@@ -904,7 +893,7 @@ impl Maker<'_> {
         let mut inside = vec![token(Kind::Def, &name), self.text(), choice(kind)];
         inside.push(self.whole(Kind::Address, address));
         inside.push(token(Kind::Deposit, &layout.name));
-        inside.push(self.decimal(Kind::Decimal, (0, 0)));
+        inside.push(self.said());
         inside.push(self.conversion());
         inside.extend(self.limits());
         let rest = self.optional(groups, axes, 3);

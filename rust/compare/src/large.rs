@@ -1,8 +1,8 @@
-//! Descriptions at each capacity, and one past it.
+//! Descriptions at each capacity, and one past it; very long numbers.
 use crate::rng::Rng;
 
 /// How many kinds there are.
-pub const KINDS: u64 = 28;
+pub const KINDS: u64 = 32;
 
 /// What the names of many objects begin with.
 const PREFIX: &str = "VEHICLE.POWERTRAIN.ENGINE.CONTROL.UNIT.CALIBRATION.PARAMETER.GROUP.SET.";
@@ -128,6 +128,11 @@ pub fn padded(length: usize) -> Vec<u8> {
     text
 }
 
+/// A MEASUREMENT whose upper limit is a run, and something before its address.
+fn long_number(run: &str, more: &str) -> String {
+    format!("/begin MEASUREMENT Q \"\" UBYTE NO_COMPU_METHOD 0 0 -0e-99 {run}\n{more} ECU_ADDRESS 0x1000 /end MEASUREMENT\n")
+}
+
 /// The large case with a number.
 pub fn large(number: u64, rng: &mut Rng) -> Large {
     let mut image: Vec<u8> = (0..0x4100).map(|_| rng.next() as u8).collect();
@@ -194,7 +199,12 @@ pub fn large(number: u64, rng: &mut Rng) -> Large {
         24 => module(&(many_tables(128, 128, 1024) + "/begin COMPU_VTAB T9 \"\" TAB_VERB 0 /end COMPU_VTAB\n")),
         25 => module(&(many_layouts(64) + &values("L9", "UBYTE", "ROW_DIR"))),
         26 => module(&many_tables(128, 128, 1025).replace(" 8 \"t127.8\"", " 7.0 \"t127.8\"")),
-        _ => module(&many_tables(128, 128, 1025).replace(" 8 \"t127.8\"", " 7.5 \"t127.8\"")),
+        27 => module(&many_tables(128, 128, 1025).replace(" 8 \"t127.8\"", " 7.5 \"t127.8\"")),
+        // Numbers of a million digits and more: read, not read on either side of the point, where no number is wanted.
+        28 => module(&long_number(&format!("+{0}655.35{0}e+02", "0".repeat(1 << 20)), "")),
+        29 => module(&long_number(&format!("1{}E-99", "0".repeat(1 << 20)), "")),
+        30 => module(&long_number(&format!("0.{}1E99", "0".repeat(1 << 20)), "")),
+        _ => module(&long_number("1.2E3", &format!("{}e0", "0".repeat(1 << 20)))),
     };
     Large { text, image, base: base as u32 }
 }

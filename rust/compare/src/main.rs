@@ -10,6 +10,7 @@ mod large;
 mod lent;
 mod requests;
 mod rng;
+mod spell;
 mod token;
 
 use aimed::AIMS;
@@ -31,7 +32,7 @@ struct Options {
 }
 
 const USAGE: &str = "usage: compare [--seed S] [--loads N] [--writes M] [--seconds T] [--out DIR] [--trace]
-  --seed S     the first case's seed (0); the next case has the next seed. Seeds 0 to 27 are the large ones
+  --seed S     the first case's seed (0); the next case has the next seed. Seeds 0 to 31 are the large ones
   --loads N    end after N loads (2000, or no end where --seconds is given)
   --writes M   writes to each accepted description (12)
   --seconds T  end after T seconds
@@ -89,6 +90,9 @@ fn never(stats: &Stats) -> Vec<String> {
     look("damaged tables", &stats.damaged_answers, &[0, 20, 22]);
     for (aim, _) in AIMS.iter().zip(stats.aimed).filter(|&(_, count)| count == 0) {
         missing.push(aim.what.to_string());
+    }
+    if stats.loads_without == 0 || stats.writes_without == 0 {
+        missing.push("a load and a write without their exponents".to_string());
     }
     missing
 }
@@ -148,6 +152,8 @@ fn run(options: &Options) -> i32 {
         let answer = if aim.breaks { "22" } else { "keeps" };
         println!("  {:<40} {answer}: {count}", aim.what);
     }
+    let (loads, writes) = (stats.loads_without, stats.writes_without);
+    println!("{:<18} loads {loads}, writes {writes}", "exponents out");
     println!("{:<18} {}", "buffers too short", stats.short_calls);
     println!("{:<18} {}", "elements", stats.elements);
     println!("{:<18} {:.1}", "seconds", start.elapsed().as_secs_f64());

@@ -1,7 +1,7 @@
 //! Requests made at random: elements, raw values, asked values, names, damaged cells.
 use crate::both::Call;
-use crate::generate::decimal;
 use crate::rng::Rng;
+use crate::spell::{decimal, edge, with_exponent};
 
 /// Where the sections stand in the tables: count cell, width of a record.
 pub const OBJECTS: usize = 4;
@@ -109,13 +109,16 @@ fn raw_value(part: &[u64], rng: &mut Rng) -> i64 {
     }
 }
 
+/// The greatest whole number of a decimal.
+const MOST: u64 = 9_999_999_999;
+
 /// A fraction as a decimal, if it is one with at most six places and ten digits.
-fn exact(top: i128, under: i128) -> Option<String> {
+fn exact(top: i128, under: i128) -> Option<(i64, u32)> {
     for power in 0..=6 {
         let scaled = top.checked_mul(10i128.pow(power))?;
         if under != 0 && scaled % under == 0 {
             let whole = scaled / under;
-            return if whole.abs() <= 9_999_999_999 { Some(decimal(whole as i64, power)) } else { None };
+            return if whole.unsigned_abs() <= MOST as u128 { Some((whole as i64, power)) } else { None };
         }
     }
     None
@@ -141,14 +144,52 @@ fn factors(cells: &[u64], part: &[u64]) -> Option<[i128; 4]> {
     Some([at(0), at(1), at(2), at(3)])
 }
 
-/// An asked value for a part: at raw values and between two of them, around limits, odd in form.
-fn asked_value(cells: &[u64], part: &[u64], rng: &mut Rng) -> Vec<u8> {
-    const ODD: [&str; 24] = [
+/// A number to ask for in a part: at raw values and between two of them, around limits.
+fn asked_number(cells: &[u64], part: &[u64], rng: &mut Rng) -> (i64, u32) {
+    let limit = |from: usize| {
+        let value = part[from + 1] as i64;
+        (if part[from] == 1 { -value } else { value }, part[from + 2] as u32)
+    };
+    match rng.below(11) {
+        0 | 1 => {
+            let (value, power) = limit(if rng.one_in(2) { 11 } else { 14 });
+            return (value + rng.pick(&[0, 0, 1, -1]), power);
+        }
+        2 => return (rng.below(2_000_000_000) as i64 - 1_000_000_000, rng.below(7) as u32),
+        3 => return (rng.below(2000) as i64 - 1000, rng.below(4) as u32),
+        4 => {
+            // Inside the limits.
+            let ((lower, low), (upper, up)) = (limit(11), limit(14));
+            let power = low.max(up);
+            let (lower, upper) = (lower * 10i64.pow(power - low), upper * 10i64.pow(power - up));
+            let between = lower.saturating_add(rng.below((upper.saturating_sub(lower)) as u64 + 1) as i64);
+            return (between, power);
+        }
+        _ => {}
+    }
+    let Some([b, c, e, f]) = factors(cells, part) else {
+        return (rng.below(6) as i64, 0);
+    };
+    if e != 0 && rng.one_in(3) {
+        if let Some(number) = exact(-f, e) {
+            return number;
+        }
+    }
+    // The value of a raw number, or of the middle between it and the next.
+    let twice = 2 * raw_value(part, rng).clamp(-(1 << 33), 1 << 33) as i128 + rng.below(2) as i128;
+    match exact(f * twice - 2 * c, 2 * b - e * twice) {
+        Some(number) => number,
+        None => (rng.below(200_000) as i64 - 100_000, rng.below(4) as u32),
+    }
+}
+
+/// An asked value that is odd in form or at an edge of it.
+fn odd_value(rng: &mut Rng) -> String {
+    const ODD: [&str; 32] = [
         "",
         "-",
         "+",
         ".",
-        "1e3",
         " 5",
         "5 ",
         "0x10",
@@ -168,57 +209,49 @@ fn asked_value(cells: &[u64], part: &[u64], rng: &mut Rng) -> Vec<u8> {
         "00000000005",
         "--5",
         "5,5",
+        "1e3",
+        "1e9",
+        "-1E+9",
+        "1000000001e0",
+        "12345678.90e0",
+        "1234567.891e0",
+        "1e1 ",
+        " 1e1",
+        "1000000000000e-3",
     ];
-    let limit = |from: usize| {
-        let value = part[from + 1] as i64;
-        (if part[from] == 1 { -value } else { value }, part[from + 2] as u32)
-    };
-    match rng.below(12) {
-        0 => return rng.pick(&ODD).as_bytes().to_vec(),
-        1 | 2 => {
-            let (value, power) = limit(if rng.one_in(2) { 11 } else { 14 });
-            let step = rng.pick(&[0, 0, 1, -1]);
-            return decimal(value + step, power).into_bytes();
-        }
-        3 => return decimal(rng.below(2_000_000_000) as i64 - 1_000_000_000, rng.below(7) as u32).into_bytes(),
-        4 => return decimal(rng.below(2000) as i64 - 1000, rng.below(4) as u32).into_bytes(),
-        5 => {
-            // Inside the limits.
-            let ((lower, low), (upper, up)) = (limit(11), limit(14));
-            let power = low.max(up);
-            let (lower, upper) = (lower * 10i64.pow(power - low), upper * 10i64.pow(power - up));
-            let between = lower.saturating_add(rng.below((upper.saturating_sub(lower)) as u64 + 1) as i64);
-            return decimal(between, power).into_bytes();
-        }
-        _ => {}
-    }
-    let Some([b, c, e, f]) = factors(cells, part) else {
-        return rng.below(6).to_string().into_bytes();
-    };
-    if e != 0 && rng.one_in(3) {
-        if let Some(text) = exact(-f, e) {
-            return text.into_bytes();
-        }
-    }
-    // The value of a raw number, or of the middle between it and the next.
-    let twice = 2 * raw_value(part, rng).clamp(-(1 << 33), 1 << 33) as i128 + rng.below(2) as i128;
-    match exact(f * twice - 2 * c, 2 * b - e * twice) {
-        Some(text) => text.into_bytes(),
-        None => decimal(rng.below(200_000) as i64 - 100_000, rng.below(4) as u32).into_bytes(),
+    if rng.one_in(2) {
+        edge(rng)
+    } else {
+        rng.pick(&ODD).to_string()
     }
 }
 
-/// A write.
-pub fn write(cells: &[u64], all: &[(u32, u8, u32)], rng: &mut Rng) -> Call {
+/// An asked value for a part; where it has an exponent and could do without, also the same number without one.
+fn asked_value(cells: &[u64], part: &[u64], rng: &mut Rng) -> (String, Option<String>) {
+    if rng.one_in(9) {
+        return (odd_value(rng), None);
+    }
+    let (value, power) = asked_number(cells, part, rng);
+    let without = decimal(value, power);
+    if !rng.one_in(3) {
+        return (without, None);
+    }
+    let asked = with_exponent(value, power, rng);
+    (asked, if value.unsigned_abs() <= MOST { Some(without) } else { None })
+}
+
+/// A write; where it asks for a number with an exponent, also the same write without one.
+pub fn write(cells: &[u64], all: &[(u32, u8, u32)], rng: &mut Rng) -> (Call, Option<Call>) {
     let (object, part, index) = wanted(cells, all, rng);
     let nothing = [0; 19];
     let there = (object as u64) < cells[OBJECTS] && part < 3;
     let cells_of = if there { group(cells, 3 * object as usize + part as usize) } else { &nothing };
     if rng.one_in(2) {
-        Call::WriteRaw(object, part, index, raw_value(cells_of, rng))
-    } else {
-        Call::WritePhysical(object, part, index, asked_value(cells, cells_of, rng))
+        return (Call::WriteRaw(object, part, index, raw_value(cells_of, rng)), None);
     }
+    let (asked, without) = asked_value(cells, cells_of, rng);
+    let physical = |asked: String| Call::WritePhysical(object, part, index, asked.into_bytes());
+    (physical(asked), without.map(physical))
 }
 
 /// A name that no object bears, or perhaps one.
@@ -250,7 +283,7 @@ pub fn any_call(cells: &[u64], all: &[(u32, u8, u32)], names: &[&[u8]], rng: &mu
         }
         3 => Call::MakeList,
         4 => Call::Listing,
-        _ => write(cells, all, rng),
+        _ => write(cells, all, rng).0,
     }
 }
 

@@ -1,6 +1,7 @@
 //! Random numbers from a seed (splitmix64).
 
 /// The state of the random numbers.
+#[derive(Clone)]
 pub struct Rng(u64);
 
 impl Rng {

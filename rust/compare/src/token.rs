@@ -28,16 +28,34 @@ pub enum Kind {
     Pairs,
 }
 
-/// One token.
+/// One token; where it is made with an exponent, also the same number without one.
 #[derive(Clone, Debug)]
 pub struct Token {
     pub kind: Kind,
     pub bytes: Vec<u8>,
+    pub without: Option<Vec<u8>>,
 }
 
 /// A token of a kind.
 pub fn token(kind: Kind, bytes: impl AsRef<[u8]>) -> Token {
-    Token { kind, bytes: bytes.as_ref().to_vec() }
+    Token { kind, bytes: bytes.as_ref().to_vec(), without: None }
+}
+
+/// Takes the exponents out of a description: its tokens without them. Where a number's spellings are not of one
+/// length, blanks follow the shorter, so that every token stands at the same place in both. None if it has none.
+pub fn take_exponents_out(tokens: &mut [Token]) -> Option<Vec<Token>> {
+    let mut others = tokens.to_vec();
+    let mut any = false;
+    for (one, other) in tokens.iter_mut().zip(&mut others) {
+        if let Some(without) = one.without.clone() {
+            let width = one.bytes.len().max(without.len());
+            other.bytes = without;
+            one.bytes.resize(width, b' ');
+            other.bytes.resize(width, b' ');
+            any = true;
+        }
+    }
+    any.then_some(others)
 }
 
 /// A keyword.

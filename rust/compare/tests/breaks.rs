@@ -14,7 +14,7 @@ fn compare(number: usize, seed: &str, loads: &str) -> Output {
 
 #[test]
 fn the_plain_reader_is_like_itself() {
-    let output = compare(0, "28", "300");
+    let output = compare(0, "32", "300");
     let said = String::from_utf8_lossy(&output.stdout).into_owned();
     assert!(output.status.success(), "{said}");
     let last = said.lines().last().unwrap_or("");
@@ -24,7 +24,7 @@ fn the_plain_reader_is_like_itself() {
 #[test]
 fn every_break_is_caught() {
     for (at, what) in obarsivel::mock::BREAKS.iter().enumerate() {
-        let output = compare(at + 1, "28", "2000");
+        let output = compare(at + 1, "32", "2000");
         let said = String::from_utf8_lossy(&output.stdout).into_owned();
         assert_eq!(output.status.code(), Some(1), "{what}: {said}");
         assert!(said.starts_with("seed "), "{what}: {said}");

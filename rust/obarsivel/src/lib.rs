@@ -335,7 +335,7 @@ impl Reader {
         })
     }
 
-    /// Writes the raw value nearest to an asked physical one, a decimal such as `-12.5`.
+    /// Writes the raw value nearest to an asked physical one, a decimal such as `-12.5` or `1.2E3`.
     pub fn write_physical(
         &mut self,
         object: u32,

@@ -8,7 +8,7 @@ use std::slice::{from_raw_parts, from_raw_parts_mut};
 use std::sync::OnceLock;
 
 /// What OBARSIVEL_MOCK_BREAK breaks, from number 1.
-pub const BREAKS: [&str; 17] = [
+pub const BREAKS: [&str; 20] = [
     "a reference that leads nowhere is placed one byte on",
     "COLUMN_DIR is read as ROW_DIR",
     "after a write, lines of other elements are left stale",
@@ -26,6 +26,9 @@ pub const BREAKS: [&str; 17] = [
     "a MEASUREMENT's mark is not looked at by the table rule",
     "a refused read has put zeros into out and shown",
     "a read without a number leaves shown as it was",
+    "an exponent's minus is read as a plus",
+    "a number with an exponent is malformed where none is wanted",
+    "an asked value's digits before its exponent are counted",
 ];
 
 /// Tells whether a number is the one to break.
@@ -84,6 +87,28 @@ fn lent(tables: &[u64]) -> Cow<'_, [u64]> {
     Cow::Owned(cells)
 }
 
+/// The description, with every exponent's minus turned if that is to be broken.
+fn lent_text(text: &[u8]) -> Cow<'_, [u8]> {
+    if !broken(18) {
+        return Cow::Borrowed(text);
+    }
+    let mut bytes = text.to_vec();
+    for at in 2..text.len() {
+        if text[at] == b'-' && matches!(text[at - 1], b'E' | b'e') && text[at - 2].is_ascii_digit() {
+            bytes[at] = b'+';
+        }
+    }
+    Cow::Owned(bytes)
+}
+
+/// Tells whether a decimal with an exponent stands at a place.
+fn exponent_at(text: &[u8], place: usize) -> bool {
+    let run = text[place..].iter().take_while(|byte| byte.is_ascii_alphanumeric() || b"+-.".contains(byte));
+    let run: Vec<u8> = run.copied().collect();
+    let is_number = run.first().is_some_and(|byte| !byte.is_ascii_alphabetic());
+    is_number && !run.starts_with(b"0x") && run.iter().any(|byte| matches!(byte, b'E' | b'e'))
+}
+
 /// The archive's version: major * 65536 + minor * 256 + patch.
 ///
 /// # Safety
@@ -115,10 +140,13 @@ pub unsafe extern "C" fn obarsivel_load(
     if tables_len < TABLE_CELLS || work_len < WORK_CELLS {
         return 20;
     }
-    let answer = plain::load(text, image, base);
-    if let Err(refusal) = answer {
+    let mut answer = plain::load(&lent_text(text), image, base);
+    if let Err(refusal) = &mut answer {
         if refusal.number == 20 {
             return 20;
+        }
+        if broken(19) && refusal.number == 5 && exponent_at(text, refusal.place) {
+            refusal.number = 2;
         }
     }
     if !broken(9) {
@@ -412,6 +440,8 @@ pub unsafe extern "C" fn obarsivel_write_physical(
             plain::write_physical(text, image, base, &tables, lines, object, part, index, asked)?;
             return Err(16);
         }
+        let before = asked.iter().take_while(|byte| !matches!(byte, b'E' | b'e')).filter(|byte| byte.is_ascii_digit());
+        let asked = if broken(20) && before.count() > 10 { b"" } else { asked };
         plain::write_physical(text, image, base, &tables, lines, object, part, index, asked)
     };
     write(image, &mut columns, call, own)

@@ -1,5 +1,5 @@
 //! A plain hand-written reader of descriptions, images and value lists,
-//! written from document 01 and its readings alone: the second reader that
+//! written from documents 01 and 02 and their readings alone: the second reader that
 //! the proved one is compared with. No dependencies, no unsafe code.
 #![forbid(unsafe_code)]
 

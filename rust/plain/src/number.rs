@@ -1,4 +1,4 @@
-//! The forms of numbers: whole numbers, `0x` numbers and decimals.
+//! The forms of numbers: whole numbers, `0x` numbers and decimals with or without an exponent.
 
 /// A decimal: sign (false for zero, also where it is written `-0`), whole number, smallest power of ten below it.
 #[derive(Clone, Copy, PartialEq, Eq, Debug)]
@@ -78,34 +78,71 @@ pub fn read_whole(run: &[u8], most: u64) -> Option<u64> {
     }
 }
 
-/// Reads a decimal: sign, 1 to 10 digits in all, at most 6 after a point.
-pub fn read_decimal(run: &[u8]) -> Option<Decimal> {
-    let (below, digits) = match run.first()? {
-        b'-' => (true, &run[1..]),
-        b'+' => (false, &run[1..]),
+/// Parts a run into whether a minus begins it and what follows its sign.
+fn signed_run(run: &[u8]) -> (bool, &[u8]) {
+    match run.first() {
+        Some(b'-') => (true, &run[1..]),
+        Some(b'+') => (false, &run[1..]),
         _ => (false, run),
-    };
+    }
+}
+
+/// Parts digits at their point: those left and right of it, none right where there is no point.
+fn read_sides(digits: &[u8]) -> Option<(&[u8], &[u8])> {
     let (left, right) = match digits.iter().position(|&byte| byte == b'.') {
         Some(point) if point + 1 < digits.len() => (&digits[..point], &digits[point + 1..]),
         Some(_) => return None,
         None => (digits, &digits[..0]),
     };
-    if left.is_empty() || left.len() + right.len() > 10 || right.len() > 6 {
+    let all_digits = left.iter().chain(right).all(u8::is_ascii_digit);
+    if left.is_empty() || !all_digits {
         return None;
     }
-    let mut whole = 0u64;
-    for &digit in left.iter().chain(right) {
-        if !digit.is_ascii_digit() {
-            return None;
-        }
-        whole = whole * 10 + (digit - b'0') as u64;
+    Some((left, right))
+}
+
+/// Reads what follows an E: an optional sign, one or two digits.
+fn read_exponent(run: &[u8]) -> Option<i64> {
+    let (below, digits) = signed_run(run);
+    if !matches!(digits.len(), 1 | 2) || !digits.iter().all(u8::is_ascii_digit) {
+        return None;
     }
-    let mut power = right.len() as u32;
-    while power > 0 && whole.is_multiple_of(10) {
-        whole /= 10;
-        power -= 1;
+    let size = digits.iter().fold(0, |size, &digit| size * 10 + (digit - b'0') as i64);
+    Some(if below { -size } else { size })
+}
+
+/// Moves the point of digits to the right by an exponent. The number moved is judged without needless zeros: at most
+/// 10 digits, at most 6 after the point.
+fn moved(below: bool, left: &[u8], right: &[u8], exponent: i64) -> Option<Decimal> {
+    let digits = || left.iter().chain(right);
+    let is_zero = |digit: &&u8| **digit == b'0';
+    let (many, before) = (digits().count(), digits().take_while(is_zero).count());
+    if before == many {
+        return Some(Decimal { below: false, whole: 0, power: 0 });
     }
-    Some(Decimal { below: below && whole != 0, whole, power })
+    let behind = digits().rev().take_while(is_zero).count();
+    // How many of the digits kept stand after the point; below 0, so many zeros stand between them and the point.
+    let after = right.len() as i64 - behind as i64 - exponent;
+    let (kept, zeros) = (many - before - behind, (-after).max(0));
+    if kept as i64 + zeros > 10 || after > 6 {
+        return None;
+    }
+    let kept = digits().skip(before).take(kept);
+    let whole = kept.fold(0, |whole, &digit| whole * 10 + (digit - b'0') as u64) * 10u64.pow(zeros as u32);
+    Some(Decimal { below, whole, power: after.max(0) as u32 })
+}
+
+/// Reads a decimal: sign, digits, perhaps a point and digits, perhaps an exponent. Only without an exponent its digits
+/// are counted as they are written: 1 to 10 in all, at most 6 after the point.
+pub fn read_decimal(run: &[u8]) -> Option<Decimal> {
+    let (below, rest) = signed_run(run);
+    let letter = rest.iter().position(|byte| matches!(byte, b'E' | b'e'));
+    let (left, right) = read_sides(&rest[..letter.unwrap_or(rest.len())])?;
+    match letter {
+        Some(letter) => moved(below, left, right, read_exponent(&rest[letter + 1..])?),
+        None if left.len() + right.len() > 10 || right.len() > 6 => None,
+        None => moved(below, left, right, 0),
+    }
 }
 
 /// Tells whether a number run has any of the forms, where no number is wanted.

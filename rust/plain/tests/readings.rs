@@ -119,14 +119,14 @@ fn reading_11_to_13_forms() {
         refused_in(2, &format!("{MEAS} ECU_ADDRESS ^{run}"));
     }
     let head = "/begin MEASUREMENT A \"\" UBYTE NO_COMPU_METHOD 0";
-    for run in ["0x1", ".5", "5.", "1e3", "-", "00000000001", "1.0000000000", "1.0000000"] {
+    for run in ["0x1", ".5", "5.", "-", "00000000001", "1.0000000000", "1.0000000"] {
         refused_in(2, &format!("{head} ^{run}"));
     }
     accepted_in(&format!("{head} +0000.100000 -9999999999 +9999999999 ECU_ADDRESS 0x1000 /end MEASUREMENT"));
     refused_in(5, "^12345678901");
     refused_in(5, "^0xFFFFFFFF");
     refused_in(5, "^-1.5");
-    for run in ["2D_table", "0x123456789", "1.2345678901", "-12345678901", "1e3"] {
+    for run in ["2D_table", "0x123456789", "1.2345678901", "-12345678901"] {
         refused_in(2, &format!("^{run}"));
         refused_in(2, &format!("/begin MEASUREMENT ^{run}"));
         refused_in(2, &format!("/begin MEASUREMENT A ^{run}"));
@@ -525,22 +525,9 @@ fn reading_46_shown_numbers() {
 #[test]
 fn reading_47_asked_values() {
     let mut set = Set::new(&value("ULONG", "NO_COMPU_METHOD", "-1 9999999999", ""), &[0; 4]);
-    for asked in [
-        "1234567.891",
-        "1000000001",
-        " 5",
-        "5 ",
-        "0x10",
-        "1e3",
-        "",
-        "-",
-        "+",
-        ".5",
-        "5.",
-        "12345678901",
-        "1.2345678",
-        "--5",
-    ] {
+    for asked in
+        ["1234567.891", "1000000001", " 5", "5 ", "0x10", "", "-", "+", ".5", "5.", "12345678901", "1.2345678", "--5"]
+    {
         assert_eq!(set.physical(0, 2, 0, asked), Err(15), "{asked}");
     }
     for (asked, raw) in [

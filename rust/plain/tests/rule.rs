@@ -460,7 +460,7 @@ fn write_order() {
     assert_eq!(set.physical(0, 1, 0, "x"), Err(21));
     assert_eq!(set.raw(3, 2, 0, 99999), Err(21));
     assert_eq!(set.physical(2, 2, 0, "1"), Err(15));
-    assert_eq!(set.physical(0, 2, 0, "1e1"), Err(15));
+    assert_eq!(set.physical(0, 2, 0, "1e+"), Err(15));
     assert_eq!(set.physical(0, 2, 0, "101"), Err(16));
     // e·P + f = 5P + 30: no raw value at -6.
     assert_eq!(set.physical(0, 2, 0, "-6"), Err(17));

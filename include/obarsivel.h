@@ -205,8 +205,11 @@ uint32_t obarsivel_write_raw(const uint8_t *text, size_t text_len,
 /* Writes the raw value nearest to an asked physical one, halves away from
  * zero (rules 8.8 to 8.12); else as obarsivel_write_raw.
  *   asked  a decimal: optional sign, 1 to 10 digits in all, an optional point
- *          with digits on both sides, at most 6 after it; its whole number,
- *          needless zeros dropped, at most 10^9. No blanks, no end mark.
+ *          with digits on both sides, at most 6 after it; or any number of
+ *          such digits with an exponent, as 1.2E3 or 5e-1 (one or two digits),
+ *          that make a number of at most 10 digits, at most 6 after the point
+ *          (rules 2.13 to 2.17). Its whole number, needless zeros dropped, is
+ *          at most 10^9. No blanks, no end mark.
  * Answers 0, or 20, 22, 14, 21, 19, 15, 16, 17, 18, the first that holds in
  * this order (rules 9.14 to 9.16). */
 uint32_t obarsivel_write_physical(const uint8_t *text, size_t text_len,

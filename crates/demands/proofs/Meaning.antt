@@ -33,6 +33,7 @@ use Rattle.look.specs.Element.{meansBy, means, rawIn}
 use Rattle.look.specs.Calls.{Kept, groups, hasRoom, lentBy, reading, readingOf, physicalText, request, asksBy, isTabVerb, wantedRaw, judgedRequest, writing}
 use Rattle.list.proofs.Writes.{never, same-given, accepted, refused-answer}
 use Rattle.demands.proofs.Runs.{reads-back}
+use Rattle.demands.proofs.Numbers.{asked-exact}
 use Rattle.demands.specs.Nearest.{dividendAt, divisorAt, TwiceOff, Nearest}
 
 -- ---- the value
@@ -130,6 +131,7 @@ stores-so T g s z h =
     record {
       asked = a .asked;
       form = a .form;
+      exact = asked-exact s (a .asked) (a .form);
       within = a .within;
       some = some-divisor (asksBy T g) (a .asked) z r;
       near = stored-near away (asksBy T g) (signedOf (a .asked .negative) (a .asked .whole)) (pos (10 ^ a .asked .tens)) z r;

@@ -7,7 +7,7 @@
 --     reads                what the call that reads it answers (specs/Readings, Value)
 --     stores               what an accepted physical write leaves (specs/Writings, Nearest)
 --     exponent-exactly, as-before, narrower     which runs of bytes are read as decimals, with an exponent and without
---     decimals-exact, asked-exact, asked-alike     what they mean, in a description and in a write
+--     decimals-exact, asked-alike     what they mean, in a description and in a write
 --     none-exactly, whole-at-least-power, linear, six-types, type-word     of the conversions and data types in them (specs/Powers, Types)
 use Prim.Native.Nat.{ℕ, _-_, _*_, _≤_, _<_, max}
 use mathlib.Core.Path.{_≡_, sym}
@@ -23,7 +23,6 @@ use Rattle.number.specs.Exact.{ExponentForm, Exact, SameNumber}
 use Rattle.number.proofs.Exponents as exponents
 use Rattle.number.proofs.ExponentForms as forms
 use Rattle.cell.specs.Kind.{shapeOf}
-use Rattle.convert.specs.Asked.{askedOf}
 use Rattle.convert.specs.Fraction.{none, fraction}
 use Rattle.convert.specs.Method.{ratFunc, linearAt, linearOf}
 use Rattle.convert.specs.declared.method.Coefficients.{Coefficients}
@@ -99,13 +98,10 @@ as-before = exponents.plain-as-before
 pub narrower : (s : List ℕ) (d : Scaled) → plainOf s ≡ given d → decimalOf s ≡ given d
 narrower s d q = sym (exponents.refused-narrower s d (sym q))
 
--- "The meaning is the exact decimal.": each decimal of an accepted description, the token m up to the place e, and each value that a write asks for is exactly
--- what its bytes write
+-- "The meaning is the exact decimal.": each decimal of an accepted description, the token m up to the place e, is exactly what its bytes write. (So is the value
+-- that a write asks for: `stores`.)
 pub decimals-exact : (x : List ℕ) (k e : ℕ) (m : Scaled) (d : Decimal x k m e) → Exact (take (e - d .0) (drop (d .0) x)) m
 decimals-exact = numbers.token-exact
-
-pub asked-exact : (s : List ℕ) (d : Scaled) → askedOf s ≡ given d → Exact s d
-asked-exact = numbers.asked-exact
 
 -- a write that asks for the same number in another form, as `1200` and `1.2E3`, is the same write: its answer, the image and the list
 pub asked-alike : (t : List ℕ) (n base : ℕ) (c : Kept) (i p j : ℕ) (s r : List ℕ) (d e : Scaled) → decimalOf s ≡ given d → decimalOf r ≡ given e → SameNumber s r

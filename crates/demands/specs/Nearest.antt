@@ -6,6 +6,7 @@ use mathlib.Core.Bool.{true}
 use lib.IntN.{ℤ, pos, natAbs, _+ℤ_, _-ℤ_, _*ℤ_}
 use Rattle.number.specs.Answer.{given}
 use Rattle.number.specs.Decimal.{Scaled}
+use Rattle.number.specs.Exact.{Exact}
 use Rattle.cell.specs.Raw.{fitsRaw}
 use Rattle.cell.specs.declared.kind.Shape.{Shape}
 use Rattle.convert.specs.declared.method.Coefficients.{Coefficients}
@@ -29,6 +30,8 @@ pub record Nearest (lower upper : Scaled) (k : Coefficients) (t : Shape) (mask :
   -- "the asked value has a whole part over ten-power of size at most 10^9", and lies "in LowerLimit to UpperLimit, ends included"
   pub asked : Scaled
   pub form : askedOf s ≡ given asked
+  -- "The meaning is the exact decimal.": of the text, with an exponent or without
+  pub exact : Exact s asked
   pub within : withinLimits lower upper asked ≡ true
   -- "INT is the exact quotient, rounded to the nearest whole number": there is one, and z is at most half a step from it
   pub some : divisorAt k asked ≡ pos 0 → ⊥

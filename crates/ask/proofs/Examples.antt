@@ -1,5 +1,5 @@
--- The definitions at some places, fractions and words, computed.
-use Prim.Native.Nat.{ℕ, _^_}
+-- The definitions at some places and words, computed.
+use Prim.Native.Nat.{ℕ}
 use Prim.Native.Char.{code}
 use Prim.Native.String.{String, [] as []ˢ, _∷_ as _∷ˢ_}
 use mathlib.Core.Path.{_≡_, refl}
@@ -9,9 +9,7 @@ use Rattle.number.specs.Answer.{given, refused}
 use Rattle.number.specs.Digits.{digitOf, valueOn, allDigits}
 use Rattle.number.specs.Decimal.{signs, minus}
 use Rattle.number.specs.Whole.{wholeFrom}
-use Rattle.ask.specs.declared.six.Six.{Six}
 use Rattle.ask.specs.Spot.{lineEnds, sinceEnd, lineNumber, columnAt}
-use Rattle.ask.specs.Six.{roundedMillionths, sixPlaces}
 use Rattle.ask.specs.Typed.{partOf, rawTyped}
 
 bytes : String → List ℕ
@@ -30,21 +28,6 @@ lines = refl
 columns : map (columnAt text) (0 ∷ 1 ∷ 2 ∷ 3 ∷ 4 ∷ 5 ∷ 6 ∷ 7 ∷ 99 ∷ []) ≡ 1 ∷ 2 ∷ 3 ∷ 1 ∷ 1 ∷ 2 ∷ 3 ∷ 3 ∷ 3 ∷ []
 unfolding bytes text columnAt sinceEnd
 columns = refl
-
--- ---- fractions in six places: halves go up, and a million millionths are a whole
-abbrev six : ℕ → ℕ → Six
-six w m = record { whole = w; millionths = m }
-
-sixes : sixPlaces 11800 1000 ∷ sixPlaces 1 3 ∷ sixPlaces 2 3 ∷ sixPlaces 1999999999 2000000000 ∷ sixPlaces 1 2000000 ∷ sixPlaces 1 2000001 ∷ sixPlaces 0 7 ∷ sixPlaces 875 10 ∷ []
-    ≡ six 11 800000 ∷ six 0 333333 ∷ six 0 666667 ∷ six 1 0 ∷ six 0 1 ∷ six 0 0 ∷ six 0 0 ∷ six 87 500000 ∷ []
-unfolding sixPlaces roundedMillionths
-sixes = refl
-
--- at 2^53, past it, and with a divisor of 0
-limits : sixPlaces (2 ^ 53) 1 ∷ sixPlaces (2 ^ 53) (2 ^ 53) ∷ sixPlaces 9007199254740993 1 ∷ sixPlaces 1 9007199254740993 ∷ sixPlaces 5 0 ∷ []
-    ≡ six 9007199254740992 0 ∷ six 1 0 ∷ six 0 0 ∷ six 0 0 ∷ six 0 0 ∷ []
-unfolding sixPlaces roundedMillionths
-limits = refl
 
 -- ---- letters of parts, and raw numbers
 parts : map (λ (s : String). partOf (bytes s)) ("x" ∷ "y" ∷ "v" ∷ "X" ∷ "xy" ∷ "" ∷ []) ≡ 0 ∷ 1 ∷ 2 ∷ 3 ∷ 3 ∷ 3 ∷ []

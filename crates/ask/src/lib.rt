@@ -1,4 +1,3 @@
-// What a person types, and how places and fractions are shown to people.
-pub mod six;
+// What a person types, and how places are shown to people.
 pub mod spot;
 pub mod typed;

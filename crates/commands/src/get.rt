@@ -1,6 +1,4 @@
 // The command `get`: one element's line, and its fraction rounded to six places.
-use ask::six::Six;
-use ask::six::six_places;
 use cell::size::size;
 use console::arguments::INDEX;
 use console::arguments::NAME;
@@ -18,6 +16,8 @@ use list::make::make_list;
 use look::call::CallAnswer;
 use look::read::ReadAnswer;
 use look::read::read;
+use places::six::Six;
+use places::six::six_places;
 use printing::lines::is_line_printed;
 use requests::requested::ElementTyped;
 use requests::requested::element_named;
@@ -59,7 +59,7 @@ fn say_rounded(p: Physical) {
     say(b"rounded\t");
     say_sign(p.first, six);
     say_number(six.whole);
-    say_places(six.millionths as u64);
+    say_places(six.millionths);
     say(b"\n");
 }
 

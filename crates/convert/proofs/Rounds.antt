@@ -80,7 +80,7 @@ module _ (up : Halves) (n d : ℕ) where
       below false b = above (eqb (2 * (n % d)) d) refl b
 
   -- n lies at most half of d from rounded up n d times d, on either side
-  size-half : 0 < d → (2 * (rounded up n d * d) ≤ 2 * n + d) × (2 * n ≤ 2 * (rounded up n d * d) + d)
+  pub size-half : 0 < d → (2 * (rounded up n d * d) ≤ 2 * n + d) × (2 * n ≤ 2 * (rounded up n d * d) + d)
   size-half l = ⊎-elim down more goes
     where
       down : (rounded up n d ≡ n / d) × (2 * (n % d) ≤ d) → (2 * (rounded up n d * d) ≤ 2 * n + d) × (2 * n ≤ 2 * (rounded up n d * d) + d)
@@ -117,7 +117,7 @@ abs-diff a zero = omega arith
 abs-diff a (suc b) = diff a (suc b) (ltb a (suc b)) refl
 
 -- a product by its signs
-neg-pos : (a b : ℕ) → negℤ (pos a) *ℤ pos b ≡ negℤ (pos (a * b))
+pub neg-pos : (a b : ℕ) → negℤ (pos a) *ℤ pos b ≡ negℤ (pos (a * b))
 neg-pos zero b = rw zero-mul
 neg-pos (suc a) b = refl
 

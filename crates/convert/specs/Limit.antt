@@ -2,7 +2,8 @@
 use mathlib.Core.Bool.{Bool, _&&_}
 use Prim.Native.Nat.{_*_, _^_}
 use lib.Dec.{leb}
-use lib.Signed.{leZ}
+use lib.IntN.{ℤ, pos, _*ℤ_}
+use lib.Signed.{ltZ, leZ}
 use Rattle.number.specs.Decimal.{Scaled}
 use Rattle.number.specs.Signed.{signedOf}
 
@@ -19,3 +20,12 @@ atMost a b =
 -- "The asked value must lie in LowerLimit to UpperLimit, ends included."
 abbrev pub withinLimits : Scaled → Scaled → Scaled → Bool
 withinLimits lower upper asked = atMost lower asked && atMost asked upper
+
+-- "Test the value that the stored number means, as its exact fraction": a decimal is at most the fraction n/d, whole·d ≤ n·10^tens.
+-- (A divisor that is not above 0, and a decimal that no text can write, compare with nothing.)
+unfoldable pub atMostFraction : Scaled → ℤ → ℤ → Bool
+atMostFraction a n d = (ltZ (pos 0) d && formed a) && leZ (signedOf (a .negative) (a .whole) *ℤ d) (n *ℤ pos (10 ^ a .tens))
+
+-- The fraction n/d is at most a decimal: n·10^tens ≤ whole·d.
+unfoldable pub fractionAtMost : ℤ → ℤ → Scaled → Bool
+fractionAtMost n d a = (ltZ (pos 0) d && formed a) && leZ (n *ℤ pos (10 ^ a .tens)) (signedOf (a .negative) (a .whole) *ℤ d)

@@ -4,4 +4,4 @@ pub mod fraction;
 pub mod limit;
 pub mod method;
 mod round;
-mod whole;
+pub mod whole;

@@ -27,7 +27,7 @@ use Rattle.number.specs.Signed.{signedOf, mostSigned}
 use Rattle.convert.specs.Whole.{allSmall, Small}
 use Rattle.convert.specs.Limit.{atMost}
 use Rattle.convert.specs.Round.{Halves, away, nearest, rawFor}
-use Rattle.convert.specs.Asked.{fittingRaw, askedOf, nearestRaw, askedRaw}
+use Rattle.convert.specs.Asked.{fittingRaw, askedOf, nearestRaw, roundedRaw}
 use Rattle.convert.specs.Told.{toldRaw}
 use Rattle.convert.proofs.Wholes.{abs-signed, small-told, product-fits}
 use Rattle.convert.proofs.Limits.{ten-is, ten-fits}
@@ -105,28 +105,28 @@ pub asked-tens : (s : List ℕ) (a : DecimalAnswer) (d : Decimal) → toldDecima
 asked-tens s a d told e = decimal-form s (scaled d) (sym (ap toldDecimal e) ∙ told) .tens-most
 
 module _ (lower upper : Scaled) (k : Coefficients) (t : Shape) (mask : ℕ) (s : List ℕ) (a : DecimalAnswer) (told : toldDecimal a ≡ decimalOf s) where
-  pub asked-formless : (n : ℕ) → a ≡ decimal.Refused n → refused 15 ≡ askedRaw lower upper k t mask s
-  unfolding askedRaw askedOf
+  pub asked-formless : (n : ℕ) → a ≡ decimal.Refused n → refused 15 ≡ roundedRaw lower upper k t mask s
+  unfolding roundedRaw askedOf
   asked-formless n e = rw (sym told, e)
 
   module _ (d : Decimal) (e : a ≡ decimal.Number d) where
     is : decimalOf s ≡ given (scaled d)
     is = sym told ∙ ap toldDecimal e
 
-    pub asked-large : 1000000000 < d .whole → refused 15 ≡ askedRaw lower upper k t mask s
-    unfolding askedRaw askedOf
+    pub asked-large : 1000000000 < d .whole → refused 15 ≡ roundedRaw lower upper k t mask s
+    unfolding roundedRaw askedOf
     asked-large h = rw (is, lt-leb (d .whole) 1000000000 h)
 
     module _ (h : d .whole ≤ 1000000000) {x y : Bool} (ex : x ≡ atMost lower (scaled d)) (ey : y ≡ atMost (scaled d) upper) where
       test : (x && y) ≡ (atMost lower (scaled d) && atMost (scaled d) upper)
       test = ap₂ _&&_ ex ey
 
-      pub asked-outside : (x && y) ≡ false → refused 16 ≡ askedRaw lower upper k t mask s
-      unfolding askedRaw askedOf
+      pub asked-outside : (x && y) ≡ false → refused 16 ≡ roundedRaw lower upper k t mask s
+      unfolding roundedRaw askedOf
       asked-outside o = rw (is, le-leb (d .whole) 1000000000 h, sym test ∙ o)
 
-      pub asked-is : {n r : Answer ℤ} → (x && y) ≡ true → n ≡ nearestRaw away k (scaled d) → r ≡ fittingRaw t mask n → r ≡ askedRaw lower upper k t mask s
-      unfolding askedRaw askedOf
+      pub asked-is : {n r : Answer ℤ} → (x && y) ≡ true → n ≡ nearestRaw away k (scaled d) → r ≡ fittingRaw t mask n → r ≡ roundedRaw lower upper k t mask s
+      unfolding roundedRaw askedOf
       asked-is o p q = q ∙ ap (fittingRaw t mask) p ∙ rw (is, le-leb (d .whole) 1000000000 h, sym test ∙ o)
 
 pub ruleset askeds = (asked-signed, product-fits, worked-fits, worked-size, worked-some, raw-none, raw-is, small-told, over-size, under-size, ten-fits, near-is, near-none, fitting-is, fitting-not, fitting-refused, asked-formless, asked-tens, asked-large, asked-outside, asked-is, needs)

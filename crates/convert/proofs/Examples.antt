@@ -5,17 +5,22 @@ use Prim.Native.String.{String, [] as []ˢ, _∷_ as _∷ˢ_}
 use mathlib.Core.Path.{_≡_, refl}
 use mathlib.Core.Bool.{true, false}
 use mathlib.Core.List.{List, [], _∷_, map}
-use lib.IntN.{pos, negℤ}
+use lib.IntN.{ℤ, pos, negℤ}
 use lib.ListN.{getD}
-use Rattle.number.specs.Answer.{given, refused}
+use Rattle.number.specs.Answer.{Answer, given, refused}
 use Rattle.number.specs.Digits.{digitOf, leading, trailing, valueOn, allDigits}
 use Rattle.number.specs.Decimal.{Scaled, signs, minus, lowest, made, pointed, isExponent, exponentSize, pointMoved, judgedDecimal, movedDecimal, signedBy, plainOf, isE, mantissa, fromE, withExponent, decimalOf}
-use Rattle.convert.specs.Limit.{formed, atMost, withinLimits}
-use Rattle.convert.specs.Fraction.{none, number, text}
+use Rattle.cell.specs.Kind.{shapes, shapeOf, UBYTE, SWORD}
+use Rattle.cell.specs.Raw.{fitsRaw}
+use Rattle.convert.specs.declared.method.Coefficients.{Coefficients}
+use Rattle.convert.specs.Whole.{allSmall}
+use Rattle.convert.specs.Limit.{formed, atMost, withinLimits, atMostFraction, fractionAtMost}
+use Rattle.convert.specs.Method.{four}
+use Rattle.convert.specs.Fraction.{none, number, text, fraction, fractionOf}
 use Rattle.convert.specs.Shown.{nothing, words, shown}
-use Rattle.convert.specs.Round.{away, rounded}
+use Rattle.convert.specs.Round.{away, rounded, nearest, rawFor}
 use Rattle.convert.specs.Verbal.{textOf, entriesFrom, verbalOf}
-use Rattle.convert.specs.Asked.{askedOf}
+use Rattle.convert.specs.Asked.{askedOf, nearestRaw, roundedRaw, meansWithin, askedRaw}
 
 bytes : String → List ℕ
 bytes []ˢ = []
@@ -40,6 +45,29 @@ exponents = refl
 limits : map (withinLimits (over 5 1) (over 2 0)) (over 49 2 ∷ over 5 1 ∷ over 2 0 ∷ over 2001 3 ∷ []) ≡ false ∷ true ∷ true ∷ false ∷ []
 unfolding atMost formed
 limits = refl
+
+-- a negative decimal
+abbrev below : ℕ → ℕ → Scaled
+below n t = record { negative = true; whole = n; tens = t }
+
+-- what an asked text stores without a mask, by limits, coefficients and a data type
+abbrev storedBy : Scaled → Scaled → Coefficients → ℕ → List String → List (Answer ℤ)
+storedBy lower upper k type = map (λ (s : String). askedRaw lower upper k (shapeOf type) 0 (bytes s))
+
+-- "14.4 where the controller counts in steps of 0.25. The nearest step, 14.5, went in.": 16 for what is stored, for what is asked, and 15
+steps : storedBy (over 0 0) (over 144 1) (four (pos 4) (pos 0) (pos 0) (pos 1)) UBYTE ("14.4" ∷ "14.3" ∷ "0" ∷ "14.5" ∷ "x" ∷ []) ≡ refused 16 ∷ given (pos 57) ∷ given (pos 0) ∷ refused 16 ∷ refused 15 ∷ []
+unfolding bytes shapes shapeOf askedOf decimalOf signedBy plainOf isE fromE withExponent pointed made lowest signs minus leading trailing valueOn allDigits digitOf formed atMost allSmall rounded nearest rawFor nearestRaw roundedRaw fitsRaw fraction fractionOf atMostFraction fractionAtMost meansWithin askedRaw
+steps = refl
+
+-- "A rounded number that means no value at all counts as outside the limits.": COEFFS 0 0 60 0 1 0, where 0 means nothing; 17 and 18 come before
+poles : storedBy (below 9999999999 0) (over 9999999999 0) (four (pos 0) (pos 60) (pos 1) (pos 0)) UBYTE ("1000" ∷ "0" ∷ "0.2" ∷ "20" ∷ []) ≡ refused 16 ∷ refused 17 ∷ refused 18 ∷ given (pos 3) ∷ []
+unfolding bytes shapes shapeOf askedOf decimalOf signedBy plainOf isE fromE withExponent pointed made lowest signs minus leading trailing valueOn allDigits digitOf formed atMost allSmall rounded nearest rawFor nearestRaw roundedRaw fitsRaw fraction fractionOf atMostFraction fractionAtMost meansWithin askedRaw
+poles = refl
+
+-- thousandths from −0.0005 to 1: −0.0005 is inside, and −0.001, which is nearest to it, is not
+lower-end : storedBy (below 5 4) (over 1 0) (four (pos 1000) (pos 0) (pos 0) (pos 1)) SWORD ("-0.0005" ∷ "-0.0004" ∷ "1" ∷ []) ≡ refused 16 ∷ given (pos 0) ∷ given (pos 1000) ∷ []
+unfolding bytes shapes shapeOf askedOf decimalOf signedBy plainOf isE fromE withExponent pointed made lowest signs minus leading trailing valueOn allDigits digitOf formed atMost allSmall rounded nearest rawFor nearestRaw roundedRaw fitsRaw fraction fractionOf atMostFraction fractionAtMost meansWithin askedRaw
+lower-end = refl
 
 -- 2.4, 2.5 and 2.6 as sizes
 halves : map (λ (n : ℕ). rounded away n 10) (24 ∷ 25 ∷ 26 ∷ []) ≡ 2 ∷ 3 ∷ 3 ∷ []

@@ -1,12 +1,12 @@
 -- THE LAWS of the conversions, about the definitions that the contracts name.
 use mathlib.Core.Path.{_≡_, refl, sym, ap, ap₂, subst, _∙_}
-use mathlib.Core.Bool.{Bool, true, false, cond}
+use mathlib.Core.Bool.{Bool, true, false, cond, _&&_}
 use mathlib.Core.List.{List}
 use Prim.Native.Nat.{ℕ, zero, suc, _+_, _*_, _-_, _%_, _^_, _≤_, _<_}
 use native.Mathlib.Nat.{mul-assoc, eq-of-mul-eq-mul-right, mul-mod-left, pow-suc, pow-le-pow-right}
 use native.Mathlib.Omega.{arith}
 use borrow.Author.Tests.{lt-ltb, leb-true, leb-false, eq-eqb}
-use lib.Dec.{leb, lit<, lit≤}
+use lib.Dec.{leb, ltb, lit<, lit≤}
 use lib.IntN.{ℤ, pos, negsuc, negℤ, natAbs, _+ℤ_, _-ℤ_, _*ℤ_, negℤ-negℤ, negℤ-+ℤ}
 use lib.Pow.{pow-add}
 use Rattle.number.specs.Answer.{Answer, given, refused}
@@ -17,11 +17,12 @@ use Rattle.cell.proofs.Types.{clash}
 use Rattle.convert.specs.declared.method.Coefficients.{Coefficients}
 use Rattle.number.specs.Signed.{signedOf}
 use Rattle.convert.specs.Whole.{eqZ, allSmall}
-use Rattle.convert.specs.Limit.{withinLimits}
+use Rattle.convert.specs.Limit.{withinLimits, atMostFraction, fractionAtMost}
 use Rattle.convert.specs.Method.{sameProducts}
-use Rattle.convert.specs.Fraction.{number, turned, fraction, fractionOf}
+use Rattle.convert.specs.Fraction.{Value, none, number, text, turned, fraction, fractionOf}
 use Rattle.convert.specs.Round.{Halves, away, nearest, roundedQuotient, rawFor}
-use Rattle.convert.specs.Asked.{andThen, orRefused, asDecimal, askedOf, nearestRaw, fittingRaw, askedRaw}
+use Rattle.convert.specs.Asked.{andThen, orRefused, asDecimal, askedOf, nearestRaw, fittingRaw, roundedRaw, valueWithin, meansWithin, askedRaw}
+use Rattle.convert.proofs.Wholes.{left-true, right-true}
 use Rattle.convert.proofs.Rounds.{within-half, met, quotient-is}
 use Rattle.convert.proofs.Ring.{mul-neg, equal, N, D, Δ, over-is, under-is}
 
@@ -134,13 +135,14 @@ module _ (up : Halves) (k : Coefficients) (i : ℤ) (s : sameProducts k ≡ fals
           let y : negℤ d₀ ≡ q = ap negℤ e ∙ m in
           ap₂ (rawFor up k) (sym x) (sym y) ∙ turned-over
 
--- ---- a physical write that is not refused: its value has the form, lies within the limits, and the nearest raw number fits
+-- ---- a physical write that is not refused: its value has the form, lies within the limits, the nearest raw number fits, and means a number within them
 pub record Stores (lower upper : Scaled) (k : Coefficients) (t : Shape) (mask : ℕ) (s : List ℕ) (z : ℤ) : Type 0 where
   pub asked : Scaled
   pub form : askedOf s ≡ given asked
   pub within : withinLimits lower upper asked ≡ true
   pub near : nearestRaw away k asked ≡ given z
   pub fits : fitsRaw t mask z ≡ true
+  pub means : meansWithin lower upper k z ≡ true
 
 -- the judgements one by one
 gave : {A B : Type 0} (a : Answer A) (f : A → Answer B) (z : B) → andThen a f ≡ given z → (x : A) × (a ≡ given x) × (f x ≡ given z)
@@ -151,21 +153,59 @@ good : {A : Type 0} (n : ℕ) (b : Bool) (a x : A) → orRefused n b a ≡ given
 good n true a x h = (refl, cc)
 good n false a x h = let y : _≡_ {A = ℕ} 0 1 = cc in absurd (omega arith)
 
-pub asked-stores : (lower upper : Scaled) (k : Coefficients) (t : Shape) (mask : ℕ) (s : List ℕ) (z : ℤ) → askedRaw lower upper k t mask s ≡ given z → Stores lower upper k t mask s z
-unfolding askedRaw
-asked-stores lower upper k t mask s z h =
-    let a = gave (askedOf s) (λ d. andThen (orRefused 16 (withinLimits lower upper d) d) (λ d. fittingRaw t mask (nearestRaw away k d))) z h in
-    let b = gave (orRefused 16 (withinLimits lower upper (a .0)) (a .0)) (λ d. fittingRaw t mask (nearestRaw away k d)) z (a .2) in
-    let w = good 16 (withinLimits lower upper (a .0)) (a .0) (b .0) (b .1) in
-    let c = gave (nearestRaw away k (b .0)) (λ y. orRefused 18 (fitsRaw t mask y) y) z (b .2) in
-    let f = good 18 (fitsRaw t mask (c .0)) (c .0) z (c .2) in
-    record {
-      asked = a .0;
-      form = a .1;
-      within = w .0;
-      near = ap (nearestRaw away k) (w .1) ∙ c .1 ∙ ap given (f .1);
-      fits = ap (fitsRaw t mask) (sym (f .1)) ∙ f .0;
-    }
+module _ (lower upper : Scaled) (k : Coefficients) (t : Shape) (mask : ℕ) (s : List ℕ) (z : ℤ) where
+  -- of the rounded number
+  rounded-stores : roundedRaw lower upper k t mask s ≡ given z → meansWithin lower upper k z ≡ true → Stores lower upper k t mask s z
+  unfolding roundedRaw
+  rounded-stores h m =
+      let a = gave (askedOf s) (λ d. andThen (orRefused 16 (withinLimits lower upper d) d) (λ d. fittingRaw t mask (nearestRaw away k d))) z h in
+      let b = gave (orRefused 16 (withinLimits lower upper (a .0)) (a .0)) (λ d. fittingRaw t mask (nearestRaw away k d)) z (a .2) in
+      let w = good 16 (withinLimits lower upper (a .0)) (a .0) (b .0) (b .1) in
+      let c = gave (nearestRaw away k (b .0)) (λ y. orRefused 18 (fitsRaw t mask y) y) z (b .2) in
+      let f = good 18 (fitsRaw t mask (c .0)) (c .0) z (c .2) in
+      record {
+        asked = a .0;
+        form = a .1;
+        within = w .0;
+        near = ap (nearestRaw away k) (w .1) ∙ c .1 ∙ ap given (f .1);
+        fits = ap (fitsRaw t mask) (sym (f .1)) ∙ f .0;
+        means = m;
+      }
+
+  pub asked-stores : askedRaw lower upper k t mask s ≡ given z → Stores lower upper k t mask s z
+  unfolding askedRaw
+  asked-stores h =
+      let a = gave (roundedRaw lower upper k t mask s) (λ y. orRefused 16 (meansWithin lower upper k y) y) z h in
+      let m = good 16 (meansWithin lower upper k (a .0)) (a .0) z (a .2) in
+      rounded-stores (a .1 ∙ ap given (m .1)) (ap (meansWithin lower upper k) (sym (m .1)) ∙ m .0)
+
+-- WHAT IS STORED means the fraction itself, which lies within the limits.
+pub record MeansNumber (lower upper : Scaled) (k : Coefficients) (z : ℤ) : Type 0 where
+  pub n : ℤ
+  pub d : ℤ
+  pub exact : fractionOf k z ≡ fraction k z
+  pub is : fractionOf k z ≡ number n d
+  pub low : atMostFraction lower n d ≡ true
+  pub high : fractionAtMost n d upper ≡ true
+
+-- a number within the limits
+value-number : (lower upper : Scaled) (v : Value) → valueWithin lower upper v ≡ true
+    → (n : ℤ) × (d : ℤ) × (v ≡ number n d) × (atMostFraction lower n d ≡ true) × (fractionAtMost n d upper ≡ true)
+value-number lower upper none h = clash (sym h)
+value-number lower upper (number n d) h =
+    (n, d, refl, left-true (atMostFraction lower n d) (fractionAtMost n d upper) h, right-true (atMostFraction lower n d) (fractionAtMost n d upper) h)
+value-number lower upper (text a b) h = clash (sym h)
+
+-- coefficients or a raw number that mean nothing mean no number
+guard-exact : (lower upper : Scaled) (b : Bool) (v : Value) → valueWithin lower upper (cond b v none) ≡ true → cond b v none ≡ v
+guard-exact lower upper true v h = refl
+guard-exact lower upper false v h = clash (sym h)
+
+pub means-number : (lower upper : Scaled) (k : Coefficients) (z : ℤ) → meansWithin lower upper k z ≡ true → MeansNumber lower upper k z
+unfolding meansWithin fractionOf
+means-number lower upper k z h =
+    let m = value-number lower upper (fractionOf k z) h in
+    record { n = m .0; d = m .1; exact = guard-exact lower upper (allSmall k && ltb (natAbs z) (2 ^ 32)) (fraction k z) h; is = m .2; low = m .3; high = m .4 }
 
 -- ---- a physical write's refusal is 15, 16, 17 or 18
 -- an answer that refuses by these numbers alone
@@ -203,11 +243,16 @@ numbered-near up k d = go (allSmall k) (signedOf (d .negative) (d .whole)) (pos 
     go true p q = numbered-quotient up (k .b *ℤ p +ℤ k .c *ℤ q) (k .e *ℤ p +ℤ k .f *ℤ q)
     go false p q = numbered-refused 17 (lit≤ tt) (lit≤ tt)
 
--- A REFUSED PHYSICAL WRITE has one of document 01's four numbers: 15, 16, 17, 18.
-pub asked-numbers : (lower upper : Scaled) (k : Coefficients) (t : Shape) (mask : ℕ) (s : List ℕ) → Numbered (askedRaw lower upper k t mask s)
-unfolding askedRaw askedOf
-asked-numbers lower upper k t mask s =
+numbered-rounded : (lower upper : Scaled) (k : Coefficients) (t : Shape) (mask : ℕ) (s : List ℕ) → Numbered (roundedRaw lower upper k t mask s)
+unfolding roundedRaw askedOf
+numbered-rounded lower upper k t mask s =
     numbered-then _ _ (numbered-form (decimalOf s)) (λ d.
     numbered-then _ _ (numbered-or 16 (withinLimits lower upper d) d (lit≤ tt) (lit≤ tt)) (λ d.
     numbered-then _ _ (numbered-near away k d) (λ z.
     numbered-or 18 (fitsRaw t mask z) z (lit≤ tt) (lit≤ tt))))
+
+-- A REFUSED PHYSICAL WRITE has one of document 01's four numbers: 15, 16, 17, 18.
+pub asked-numbers : (lower upper : Scaled) (k : Coefficients) (t : Shape) (mask : ℕ) (s : List ℕ) → Numbered (askedRaw lower upper k t mask s)
+unfolding askedRaw
+asked-numbers lower upper k t mask s =
+    numbered-then _ _ (numbered-rounded lower upper k t mask s) (λ z. numbered-or 16 (meansWithin lower upper k z) z (lit≤ tt) (lit≤ tt))

@@ -1,5 +1,5 @@
 -- A physical write: from the asked text to the raw number.
-use mathlib.Core.Bool.{Bool, cond}
+use mathlib.Core.Bool.{Bool, false, cond, _&&_}
 use mathlib.Core.List.{List}
 use Prim.Native.Nat.{ℕ, _^_}
 use lib.Dec.{leb}
@@ -11,7 +11,8 @@ use Rattle.cell.specs.Raw.{fitsRaw}
 use Rattle.convert.specs.declared.method.Coefficients.{Coefficients}
 use Rattle.number.specs.Signed.{signedOf}
 use Rattle.convert.specs.Whole.{allSmall}
-use Rattle.convert.specs.Limit.{withinLimits}
+use Rattle.convert.specs.Limit.{withinLimits, atMostFraction, fractionAtMost}
+use Rattle.convert.specs.Fraction.{Value, none, number, text, fractionOf}
 use Rattle.convert.specs.Round.{Halves, away, rawFor}
 
 -- The first of several judgements that refuses.
@@ -38,9 +39,26 @@ nearestRaw up k d = cond (allSmall k) (rawFor up k (signedOf (d .negative) (d .w
 abbrev pub fittingRaw : Shape → ℕ → Answer ℤ → Answer ℤ
 fittingRaw t mask a = andThen a (λ z. orRefused 18 (fitsRaw t mask z) z)
 
--- "Write order: .. 15, 16, 17, 18": form, limits, nearest raw number, type and mask.
-unfoldable pub askedRaw : Scaled → Scaled → Coefficients → Shape → ℕ → List ℕ → Answer ℤ
-askedRaw lower upper k t mask s =
+-- "Write order: .. 15, 16, 17, 18": form, limits, nearest raw number, type and mask: the rounded number that an asked text has.
+unfoldable pub roundedRaw : Scaled → Scaled → Coefficients → Shape → ℕ → List ℕ → Answer ℤ
+roundedRaw lower upper k t mask s =
     andThen (askedOf s) (λ d.
     andThen (orRefused 16 (withinLimits lower upper d) d) (λ d.
     fittingRaw t mask (nearestRaw away k d)))
+
+-- "A rounded number that means no value at all counts as outside the limits."
+abbrev pub valueWithin : Scaled → Scaled → Value → Bool
+valueWithin lower upper none = false
+valueWithin lower upper (number n d) = atMostFraction lower n d && fractionAtMost n d upper
+valueWithin lower upper (text first past) = false
+
+-- "Test the value that the stored number means, as its exact fraction, as well as the asked one."
+unfoldable pub meansWithin : Scaled → Scaled → Coefficients → ℤ → Bool
+meansWithin lower upper k z = valueWithin lower upper (fractionOf k z)
+
+abbrev pub limitedRaw : Scaled → Scaled → Coefficients → Answer ℤ → Answer ℤ
+limitedRaw lower upper k a = andThen a (λ z. orRefused 16 (meansWithin lower upper k z) z)
+
+-- "16 is given first for the asked value in its old place, and for the stored one after 17 and 18."
+unfoldable pub askedRaw : Scaled → Scaled → Coefficients → Shape → ℕ → List ℕ → Answer ℤ
+askedRaw lower upper k t mask s = limitedRaw lower upper k (roundedRaw lower upper k t mask s)

@@ -1,4 +1,4 @@
-// A physical write: from the asked text to the raw number to store.
+// A physical write: from the asked text to the rounded raw number. The crate `asked` has the test of what it means.
 ghost use mathlib.Core.Path.{_≡_};
 ghost use Prim.Native.Nat.{_≤_};
 ghost use lib.IntN.{natAbs};
@@ -6,7 +6,7 @@ ghost use Rattle.number.specs.Told.{scaled};
 ghost use Rattle.cell.specs.Kind.{shapeOf};
 ghost use Rattle.convert.specs.Whole.{Small};
 ghost use Rattle.convert.specs.Round.{away, rawFor};
-ghost use Rattle.convert.specs.Asked.{fittingRaw, nearestRaw, askedRaw};
+ghost use Rattle.convert.specs.Asked.{fittingRaw, nearestRaw, roundedRaw};
 ghost use Rattle.convert.specs.Told.{toldRaw};
 use crate::limit::at_most;
 use crate::method::Coefficients;
@@ -75,8 +75,8 @@ fn fitting(answer: RawAnswer, kind: u64, mask: u64) -> RawAnswer
     }
 }
 
-// The raw number that an asked text stores, judged by its form, the limits, the coefficients, and type and mask.
-pub fn asked_raw(
+// The rounded number that an asked text has, judged by its form, the limits, the coefficients, and type and mask.
+pub fn rounded_raw(
     asked: &[u8],
     lower: Decimal,
     upper: Decimal,
@@ -84,7 +84,7 @@ pub fn asked_raw(
     kind: u64,
     mask: u64,
 ) -> RawAnswer
-    ensures { λ r. ⌜ toldRaw r ≡ askedRaw (scaled lower) (scaled upper) k (shapeOf kind) mask (now (asked .entry)) ⌝ }
+    ensures { λ r. ⌜ toldRaw r ≡ roundedRaw (scaled lower) (scaled upper) k (shapeOf kind) mask (now (asked .entry)) ⌝ }
 {
     let answer = decimal_of(asked);
     let DecimalAnswer::Number(d) = answer else {

@@ -24,6 +24,7 @@ pub mod Orders
 pub mod Keeping
 pub mod Frames
 pub mod Meaning
+pub mod Limiting
 pub mod Verbal
 pub mod Readings
 pub mod Writings

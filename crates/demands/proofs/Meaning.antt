@@ -21,8 +21,9 @@ use Rattle.number.specs.Signed.{signedOf}
 use Rattle.convert.specs.Method.{identicalOf, sameProducts, soundMethod}
 use Rattle.convert.specs.Fraction.{none, turned, fraction, fractionOf}
 use Rattle.convert.specs.Round.{away, nearest, rawFor}
-use Rattle.convert.specs.Asked.{nearestRaw, askedRaw}
-use Rattle.convert.proofs.Laws.{fraction-exact, stored-near, Stores, asked-stores}
+use Rattle.convert.specs.Asked.{nearestRaw, meansWithin, askedRaw}
+use Rattle.convert.specs.Told.{held}
+use Rattle.convert.proofs.Laws.{fraction-exact, stored-near, Stores, asked-stores, means-number}
 use Rattle.convert.proofs.Rounds.{half-away, quotient-none, quotient-is}
 use Rattle.tables.specs.Form.{methodSection, conversionCell, tableCell, lowerCell, upperCell, Tables, tablesIn, kind, first, mask, methodOf, limit, coefficients}
 use Rattle.tables.specs.Group.{groupOf, placeOf}
@@ -34,7 +35,7 @@ use Rattle.look.specs.Calls.{Kept, groups, hasRoom, lentBy, reading, readingOf,
 use Rattle.list.proofs.Writes.{never, same-given, accepted, refused-answer}
 use Rattle.demands.proofs.Runs.{reads-back}
 use Rattle.demands.proofs.Numbers.{asked-exact}
-use Rattle.demands.specs.Nearest.{dividendAt, divisorAt, TwiceOff, Nearest}
+use Rattle.demands.specs.Nearest.{dividendAt, divisorAt, TwiceOff, InLimits, Nearest}
 
 -- ---- the value
 
@@ -53,27 +54,35 @@ fraction-small T m h v =
     let s = three a (soundMethod (coefficients T m)) w (left (a && soundMethod (coefficients T m) && w) (eqb (T .slots methodSection m tableCell) 0) r) in
     left (allSmall (coefficients T m)) (not (sameProducts (coefficients T m))) (s .1)
 
+-- "IDENTICAL and NO_COMPU_METHOD are 1, 0, 0, 1", any other has its method's: what a raw number means under a method that is not verbal
+plain-means : (T : Tables) (g : ℕ) (z : ℤ) → isTabVerb T g ≡ false → means T g z ≡ fractionOf (asksBy T g) z
+unfolding means meansBy asksBy isTabVerb
+plain-means T g z = go (eqb (methodOf T g) 0)
+  where
+    go : (b : Bool) → (not b && isVerbal (T .slots methodSection (methodOf T g - 1) conversionCell)) ≡ false
+        → cond b (fractionOf identicalOf z) (meansBy T (methodOf T g - 1) z) ≡ fractionOf (cond b identicalOf (coefficients T (methodOf T g - 1))) z
+    go true w = refl
+    go false w = rw w
+
 module _ (n m : ℕ) (t : List ℕ) (rule : keepsRule n m t ≡ true) (g : ℕ) (below : g < groups t) where
-  -- "IDENTICAL and NO_COMPU_METHOD are 1, 0, 0, 1", any other has its method's
-  plain-small : isTabVerb (tablesIn t) g ≡ false → (z : ℤ) → (means (tablesIn t) g z ≡ fractionOf (asksBy (tablesIn t) g) z) × (allSmall (asksBy (tablesIn t) g) ≡ true)
-  unfolding means meansBy asksBy isTabVerb allSmall
-  plain-small v z = go (eqb (methodOf (tablesIn t) g) 0) refl v
+  plain-small : isTabVerb (tablesIn t) g ≡ false → allSmall (asksBy (tablesIn t) g) ≡ true
+  unfolding asksBy isTabVerb allSmall
+  plain-small v = go (eqb (methodOf (tablesIn t) g) 0) refl v
     where
       go : (b : Bool) → eqb (methodOf (tablesIn t) g) 0 ≡ b → (not b && isVerbal (tablesIn t .slots methodSection (methodOf (tablesIn t) g - 1) conversionCell)) ≡ false
-          → (cond b (fractionOf identicalOf z) (meansBy (tablesIn t) (methodOf (tablesIn t) g - 1) z) ≡ fractionOf (cond b identicalOf (coefficients (tablesIn t) (methodOf (tablesIn t) g - 1))) z)
-          × (allSmall (cond b identicalOf (coefficients (tablesIn t) (methodOf (tablesIn t) g - 1))) ≡ true)
-      go true e w = (refl, refl)
+          → allSmall (cond b identicalOf (coefficients (tablesIn t) (methodOf (tablesIn t) g - 1))) ≡ true
+      go true e w = refl
       go false e w =
           let l : methodOf (tablesIn t) g - 1 < tablesIn t .counts methodSection =
           (let o : methodOf (tablesIn t) g ≡ 0 → ⊥ = eqb-false (methodOf (tablesIn t) g) 0 e in omega (arith, method-below n m t rule g below)) in
-          (rw w, fraction-small (tablesIn t) (methodOf (tablesIn t) g - 1) (all-at (tablesIn t .counts methodSection) (methodRule (tablesIn t)) (rule-facts n m t rule .of-methods) (methodOf (tablesIn t) g - 1) l) w)
+          fraction-small (tablesIn t) (methodOf (tablesIn t) g - 1) (all-at (tablesIn t .counts methodSection) (methodRule (tablesIn t)) (rule-facts n m t rule .of-methods) (methodOf (tablesIn t) g - 1) l) w
 
   -- "P = (f·INT − c)/(b − e·INT), both signs turned if the divisor is negative, not cancelled": what a raw number of the image means under a method that is not verbal
   pub value-exact : isTabVerb (tablesIn t) g ≡ false → (image : List ℕ) → ((j : ℕ) → getD image j 0 < 256) → (i : ℕ)
       → means (tablesIn t) g (rawIn (tablesIn t) image g i) ≡ fraction (asksBy (tablesIn t) g) (rawIn (tablesIn t) image g i)
   value-exact v image b i =
-      let p = plain-small v (rawIn (tablesIn t) image g i) in
-      p .0 ∙ fraction-exact (asksBy (tablesIn t) g) (rawIn (tablesIn t) image g i) (p .1) (raw-is-small t image g i b)
+      plain-means (tablesIn t) g (rawIn (tablesIn t) image g i) v
+      ∙ fraction-exact (asksBy (tablesIn t) g) (rawIn (tablesIn t) image g i) (plain-small v) (raw-is-small t image g i b)
 
 -- "Divisor 0: no value.", and a value for any other
 turned-none : (p d : ℤ) → (turned p d ≡ none) ↔ (d ≡ pos 0)
@@ -120,6 +129,15 @@ module _ (k : Coefficients) (p : Scaled) (z : ℤ) (h : rawFor away k (signedOf 
       subst (λ (y : ℤ). TwiceOff k p y ≡ natAbs (divisorAt k p) → natAbs (dividendAt k p) < natAbs (y *ℤ divisorAt k p)) is-nearest
       (half-away (dividendAt k p) (divisorAt k p) some-divisor)
 
+-- what is stored means a number within the limits: by its fraction, and by what a line then holds
+in-limits : (lower upper : Scaled) (k : Coefficients) (z : ℤ) → meansWithin lower upper k z ≡ true → InLimits lower upper (held (fractionOf k z))
+in-limits lower upper k z h =
+    let m = means-number lower upper k z h in
+    rw (m .is) (record { is-number = refl; from-lower = m .low; to-upper = m .high })
+
+fraction-limited : (lower upper : Scaled) (k : Coefficients) (z : ℤ) → meansWithin lower upper k z ≡ true → InLimits lower upper (held (fraction k z))
+fraction-limited lower upper k z h = rw (means-number lower upper k z h .exact) at (in-limits lower upper k z h)
+
 -- what an element of group g is asked by
 abbrev pub NearestIn : Tables → ℕ → List ℕ → ℤ → Type 0
 NearestIn T g = Nearest (limit T g lowerCell) (limit T g upperCell) (asksBy T g) (shapeOf (kind T g)) (mask T g)
@@ -137,6 +155,7 @@ stores-so T g s z h =
       near = stored-near away (asksBy T g) (signedOf (a .asked .negative) (a .asked .whole)) (pos (10 ^ a .asked .tens)) z r;
       away = goes-away (asksBy T g) (a .asked) z r;
       fits = a .fits;
+      means = fraction-limited (limit T g lowerCell) (limit T g upperCell) (asksBy T g) z (a .means);
     }
 
 -- "15: .. physical write under TAB_VERB"
@@ -147,12 +166,17 @@ plain-asked T g s z = go (isTabVerb T g)
     go true h = absurd (never 15 z h)
     go false h = refl
 
+means-limited : (T : Tables) (g : ℕ) (s : List ℕ) (z : ℤ) → wantedRaw T g (physicalText s) ≡ given z → InLimits (limit T g lowerCell) (limit T g upperCell) (held (means T g z))
+means-limited T g s z h =
+    rw (plain-means T g z (plain-asked T g s z h)) (in-limits (limit T g lowerCell) (limit T g upperCell) (asksBy T g) z (wants-asked T g s z h .means))
+
 -- an accepted physical write of the text s to element i of part p of object o: a number nearest to what s asks is stored, under a conversion that is not verbal, and
--- the element then reads as that
+-- the element then reads as that, within its limits
 pub record WritesNearest (t : List ℕ) (n base : ℕ) (k : Kept) (o p i : ℕ) (s : List ℕ) : Type 0 where
   pub raw : ℤ
   pub plain : isTabVerb (tablesIn t) (groupOf o p) ≡ false
   pub nearest : NearestIn (tablesIn t) (groupOf o p) s raw
+  pub limited : InLimits (limit (tablesIn t) (groupOf o p) lowerCell) (limit (tablesIn t) (groupOf o p) upperCell) (held (means (tablesIn t) (groupOf o p) raw))
   pub read-back : reading t (writing t n base k (request o p i (physicalText s)) .left .image) (lentBy n base (writing t n base k (request o p i (physicalText s)) .left)) o p i
       ≡ given (readingOf (tablesIn t) (groupOf o p) raw)
 
@@ -167,6 +191,7 @@ writes-nearest t n base k o p i s b h = go (judgedRequest t (lentBy n base k) (h
           raw = z;
           plain = plain-asked (tablesIn t) (groupOf o p) s z w;
           nearest = stores-so (tablesIn t) (groupOf o p) s z w;
+          limited = means-limited (tablesIn t) (groupOf o p) s z w;
           read-back = reads-back t n base k (request o p i (physicalText s)) z e b;
         }
     go (refused c) e = absurd (never c (tt {0}) (sym (refused-answer t n base k (request o p i (physicalText s)) c e) ∙ h))

@@ -11,7 +11,7 @@ use Rattle.number.specs.Exact.{Exact, SameNumber}
 use Rattle.number.proofs.Laws.{run-given}
 use Rattle.number.proofs.Exponents.{decimal-exact}
 use Rattle.number.proofs.OneReading.{one-reading}
-use Rattle.convert.specs.Asked.{orRefused, asDecimal, askedOf, askedRaw}
+use Rattle.convert.specs.Asked.{orRefused, asDecimal, askedOf, roundedRaw, askedRaw}
 use Rattle.tree.specs.Tree.{Decimal}
 use Rattle.look.specs.Calls.{Kept, physicalText, request, judgedRequest, writing}
 
@@ -35,7 +35,7 @@ asked-exact s d q = decimal-exact s d (asked-read d (decimalOf s) q)
 -- two texts that write one number ask for the same
 pub asked-alike : (t : List ℕ) (n base : ℕ) (c : Kept) (i p j : ℕ) (s r : List ℕ) (d e : Scaled) → decimalOf s ≡ given d → decimalOf r ≡ given e → SameNumber s r
     → writing t n base c (request i p j (physicalText s)) ≡ writing t n base c (request i p j (physicalText r))
-unfolding writing judgedRequest askedRaw askedOf
+unfolding writing judgedRequest askedRaw roundedRaw askedOf
 asked-alike t n base c i p j s r d e q u w =
     let z : decimalOf s ≡ decimalOf r = q ∙ ap given (one-reading s r d e (sym q) (sym u) w) ∙ sym u in
     rw z

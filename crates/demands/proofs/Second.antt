@@ -1,11 +1,14 @@
 -- THE SECOND DEMAND, to be read beside document 01: "a description with its image is accepted exactly if it keeps the written rules. Every element then stands at
 -- the address and width its layout gives, inside the image; its physical value is the exact fraction or text, or none. A physical write stores the whole number
--- nearest to what the conversion asks, halves away from zero, or is refused."
+-- nearest to what the conversion asks, halves away from zero, or is refused." (With document 02's wish 2 it is refused also where the stored number would mean a value
+-- outside the limits, or none.)
 --     accepted-exactly     a load is accepted exactly if what is lent is large enough and the rules are kept (specs/Rules, Placed, Leads; the text: tree, specs/Tree)
 --     leaves               what the lent cells then hold
 --     stands               every element, on the lent cells (specs/Standing)
 --     reads                what the call that reads it answers (specs/Readings, Value)
 --     stores               what an accepted physical write leaves (specs/Writings, Nearest)
+--     stored-within        that its element then reads as a number within its limits (document 02, wish 2)
+--     sixteen              what lies outside the limits where a physical write is 16
 --     exponent-exactly, as-before, narrower     which runs of bytes are read as decimals, with an exponent and without
 --     decimals-exact, asked-alike     what they mean, in a description and in a write
 --     none-exactly, whole-at-least-power, linear, six-types, type-word     of the conversions and data types in them (specs/Powers, Types)
@@ -17,7 +20,7 @@ use mathlib.Core.Logic.{_↔_}
 use lib.IntN.{ℤ, pos, _-ℤ_, _*ℤ_}
 use lib.ListN.{length, take, drop, getD, replicate}
 use Rattle.text.specs.Answer as text
-use Rattle.number.specs.Answer.{given}
+use Rattle.number.specs.Answer.{given, refused}
 use Rattle.number.specs.Decimal.{Scaled, Form, isE, plainOf, decimalOf}
 use Rattle.number.specs.Exact.{ExponentForm, Exact, SameNumber}
 use Rattle.number.proofs.Exponents as exponents
@@ -33,14 +36,15 @@ use Rattle.rows.specs.Codes.{UBYTE, SLONG}
 use Rattle.rows.specs.Sections.{object}
 use Rattle.grammar.specs.Move.{view}
 use Rattle.objects.specs.Object.{layoutOf, needOf}
-use Rattle.tables.specs.Form.{tablesIn}
+use Rattle.tables.specs.Form.{lowerCell, upperCell, tablesIn, kind, mask, limit}
 use Rattle.tables.specs.Group.{groupOf}
 use Rattle.tree.specs.Tree.{Decimal}
 use Rattle.load.specs.Load.{loaded}
 use Rattle.keeps.specs.Stands.{Part, numberOf, needed, acrossOf, downOf}
-use Rattle.look.specs.Calls.{lentOf, Reading, reading, Kept, physicalText, request, writing}
+use Rattle.look.specs.Calls.{lentOf, lentBy, Reading, reading, Kept, physicalText, request, asksBy, writing}
 use Rattle.demands.specs.Rules.{Fits, Keeps}
-use Rattle.demands.specs.Standing.{PartHolds}
+use Rattle.demands.specs.Standing.{PartHolds, partLower, partUpper}
+use Rattle.demands.specs.Nearest.{InLimits, OutsideLimits}
 use Rattle.demands.specs.Readings.{ReadsAs}
 use Rattle.demands.specs.Writings.{Stored}
 use Rattle.demands.specs.Powers.{MadeWhole}
@@ -50,6 +54,7 @@ use Rattle.demands.proofs.Standing as standing
 use Rattle.demands.proofs.Readings as readings
 use Rattle.demands.proofs.Writings as writings
 use Rattle.demands.proofs.Meaning as meaning
+use Rattle.demands.proofs.Limiting as limiting
 use Rattle.demands.proofs.Powers as powers
 use Rattle.demands.proofs.Types as types
 use Rattle.demands.proofs.Numbers as numbers
@@ -83,6 +88,23 @@ module _ (x image : List ℕ) (base : ℕ) (tables work : List ℕ) where
           → Stored x (view (k .records)) i (layoutOf x (view (k .records)) i) p j s (loaded x image base tables work .tables) (length x) base
           (writing (loaded x image base tables work .tables) (length x) base c (request i (numberOf p) j (physicalText s)) .left)
       stores = writings.physical-stored x image base tables work f k i l p e
+
+      -- "A limit is for what gets stored. .. Test the value that the stored number means, as its exact fraction, as well as the asked one." (document 02, wish 2):
+      -- after an accepted physical write the call that reads the element answers a number within the element's limits, ends included
+      pub stored-within : (c : Kept) → ((j : ℕ) → getD (c .image) j 0 < 256) → (j : ℕ) (s : List ℕ)
+          → writing (loaded x image base tables work .tables) (length x) base c (request i (numberOf p) j (physicalText s)) .answer ≡ given tt
+          → (r : Reading)
+          × (reading (loaded x image base tables work .tables) (writing (loaded x image base tables work .tables) (length x) base c (request i (numberOf p) j (physicalText s)) .left .image)
+          (lentBy (length x) base (writing (loaded x image base tables work .tables) (length x) base c (request i (numberOf p) j (physicalText s)) .left)) i (numberOf p) j ≡ given r)
+          × InLimits (partLower x (view (k .records)) i p) (partUpper x (view (k .records)) i p) (r .value)
+      stored-within c b j s h = let w = stores c b j s h in (w .answer, w .is-read, w .is-limited)
+
+-- "16 is given first for the asked value in its old place, and for the stored one after 17 and 18." (document 02, wish 2): with any tables, a physical write that is
+-- 16 asks for a value outside the element's limits, or the rounded number means no number within them
+pub sixteen : (t : List ℕ) (n base : ℕ) (c : Kept) (i p j : ℕ) (s : List ℕ) → writing t n base c (request i p j (physicalText s)) .answer ≡ refused 16
+    → OutsideLimits (limit (tablesIn t) (groupOf i p) lowerCell) (limit (tablesIn t) (groupOf i p) upperCell) (asksBy (tablesIn t) (groupOf i p)) (shapeOf (kind (tablesIn t) (groupOf i p)))
+    (mask (tablesIn t) (groupOf i p)) s
+sixteen = limiting.sixteen
 
 -- "Read an optional E or e, an optional sign and one or two digits. The meaning is the exact decimal. It is accepted if, after moving the point and dropping
 -- needless zeros, it has at most 10 digits and at most 6 after the point; otherwise still 2." (document 02, wish 1): a run of bytes that has an E or e is read as

@@ -1,5 +1,6 @@
 -- THE THIRD DEMAND, to be read beside document 01: "After any sequence of writes, refused ones included, the kept value list equals one made anew. An accepted
--- write changes at most the masked bits of the named element, and no list line that shares no byte with it."
+-- write changes at most the masked bits of the named element, and no list line that shares no byte with it." (With document 02's wish 2 more writes are refused: those whose
+-- stored number would mean a value outside the limits, or none. What is said of refused writes is said of them.)
 --     kept-anew          from an accepted load on, after any requests (specs/Anew)
 --     as-many-lines      how many lines its list has
 --     framed             what a write leaves alone (specs/Frames)

@@ -41,4 +41,5 @@ physical-stored x image base lent work f k i l p e c b j s h =
       answer = readingOf (tablesIn t) g (w .raw);
       is-read = w .read-back;
       is-raw = refl;
+      is-limited = rw (q .lower, q .upper) at (w .limited);
     }

@@ -2,7 +2,7 @@
 use Prim.Native.Nat.{ℕ, _*_, _^_, _≤_, _<_}
 use mathlib.Core.Path.{_≡_}
 use mathlib.Core.List.{List}
-use mathlib.Core.Bool.{true}
+use mathlib.Core.Bool.{true, false}
 use lib.IntN.{ℤ, pos, natAbs, _+ℤ_, _-ℤ_, _*ℤ_}
 use Rattle.number.specs.Answer.{given}
 use Rattle.number.specs.Decimal.{Scaled}
@@ -11,8 +11,11 @@ use Rattle.cell.specs.Raw.{fitsRaw}
 use Rattle.cell.specs.declared.kind.Shape.{Shape}
 use Rattle.convert.specs.declared.method.Coefficients.{Coefficients}
 use Rattle.number.specs.Signed.{signedOf}
-use Rattle.convert.specs.Limit.{withinLimits}
-use Rattle.convert.specs.Asked.{askedOf}
+use Rattle.convert.specs.declared.fraction.Physical.{Physical}
+use Rattle.convert.specs.Fraction.{fraction, fractionOf}
+use Rattle.convert.specs.Limit.{withinLimits, atMostFraction, fractionAtMost}
+use Rattle.convert.specs.Asked.{askedOf, roundedRaw}
+use Rattle.convert.specs.Told.{held}
 
 -- "INT = (aP²+bP+c)/(dP²+eP+f); a and d must be 0", at the asked value P, a whole number over a power of ten: the quotient is dividendAt / divisorAt
 abbrev pub dividendAt : Coefficients → Scaled → ℤ
@@ -24,6 +27,13 @@ divisorAt k p = k .e *ℤ signedOf (p .negative) (p .whole) +ℤ k .f *ℤ pos (
 -- twice the distance of z from the quotient, times the divisor: at most the divisor where z is at most half a step off
 abbrev pub TwiceOff : Coefficients → Scaled → ℤ → ℕ
 TwiceOff k p z = 2 * natAbs (z *ℤ divisorAt k p -ℤ dividendAt k p)
+
+-- "A limit is for what gets stored. .. Test the value that the stored number means, as its exact fraction, as well as the asked one.": the value that a line
+-- holds is a number (state 1), and the exact fraction lies from the lower to the upper limit, ends included
+pub record InLimits (lower upper : Scaled) (p : Physical) : Type 0 where
+  pub is-number : p .state ≡ 1
+  pub from-lower : atMostFraction lower (p .first) (p .second) ≡ true
+  pub to-upper : fractionAtMost (p .first) (p .second) upper ≡ true
 
 -- z is what a write of the text s is to store, by the limits and the coefficients of an element of a data type, under its mask
 pub record Nearest (lower upper : Scaled) (k : Coefficients) (t : Shape) (mask : ℕ) (s : List ℕ) (z : ℤ) : Type 0 where
@@ -40,3 +50,11 @@ pub record Nearest (lower upper : Scaled) (k : Coefficients) (t : Shape) (mask :
   pub away : TwiceOff k asked z ≡ natAbs (divisorAt k asked) → natAbs (dividendAt k asked) < natAbs (z *ℤ divisorAt k asked)
   -- it fits type and mask
   pub fits : fitsRaw t mask z ≡ true
+  -- what z means, "P = (f·INT − c)/(b − e·INT)", lies within the limits too
+  pub means : InLimits lower upper (held (fraction k z))
+
+-- "16 is given first for the asked value in its old place, and for the stored one after 17 and 18.": what lies outside the limits where a write of the text s is 16
+pub data OutsideLimits (lower upper : Scaled) (k : Coefficients) (t : Shape) (mask : ℕ) (s : List ℕ) : Type 0 where
+  is-asked : (p : Scaled) → askedOf s ≡ given p → withinLimits lower upper p ≡ false → OutsideLimits lower upper k t mask s
+  -- what the rounded number means, "no value at all" too
+  is-stored : (z : ℤ) → roundedRaw lower upper k t mask s ≡ given z → (InLimits lower upper (held (fractionOf k z)) → ⊥) → OutsideLimits lower upper k t mask s

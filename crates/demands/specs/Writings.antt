@@ -10,7 +10,7 @@ use Rattle.grammar.specs.Move.{View}
 use Rattle.place.specs.declared.order.Layout.{Layout}
 use Rattle.keeps.specs.Stands.{Part, numberOf, typeOf}
 use Rattle.look.specs.Calls.{lentBy, Reading, reading, Kept}
-use Rattle.demands.specs.Nearest.{Nearest}
+use Rattle.demands.specs.Nearest.{Nearest, InLimits}
 use Rattle.demands.specs.Standing.{partMask, conversionFrom, conversionPast, partLower, partUpper}
 use Rattle.demands.specs.Value.{CoefficientsBy}
 
@@ -26,3 +26,5 @@ pub record Stored (x : List ℕ) (v : View) (i : ℕ) (l : Layout) (p : Part) (j
   pub answer : Reading
   pub is-read : reading t (after .image) (lentBy n base after) i (numberOf p) j ≡ given answer
   pub is-raw : answer .raw ≡ raw
+  -- "A limit is for what gets stored.": as a number within the element's limits
+  pub is-limited : InLimits (partLower x v i p) (partUpper x v i p) (answer .value)

@@ -66,7 +66,7 @@ making-numbers t n base k =
     after-numbers (20 ∷ 22 ∷ []) (checked t (lentBy n base k) (hasRoom t k) (given (tt {0}))) k (λ _. remade t k)
     (checked-numbers t (lentBy n base k) (hasRoom t k) [] (given (tt {0})) (given-numbers [] (tt {0})))
 
--- "15, 16, 17, 18": what is asked
+-- "15, 16, 17, 18", and 16 once more: what is asked
 abbrev wanting : List ℕ
 wanting = 15 ∷ 16 ∷ 17 ∷ 18 ∷ []
 

@@ -181,7 +181,7 @@ writable t g i a =
 unfoldable pub judgedElement : {A : Type 0} → List ℕ → Lent → Bool → ℕ → ℕ → ℕ → Answer A → Answer A
 judgedElement t l enough o p i a = checked t l enough (unless (isElement (tablesIn t) o p i) 14 (writable t (groupOf o p) i a))
 
--- "Write order: .. 15, 16, 17, 18.": the raw number that a request stores. No byte of the image is looked at.
+-- "Write order: .. 15, 16, 17, 18." and 16 "for the stored one after 17 and 18": the raw number that a request stores. No byte of the image is looked at.
 unfoldable pub judgedRequest : List ℕ → Lent → Bool → Request → Answer ℤ
 judgedRequest t l enough q = judgedElement t l enough (q .object) (q .part) (q .index) (wantedRaw (tablesIn t) (groupIn q) (q .wanted))
 

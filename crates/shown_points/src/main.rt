@@ -1,4 +1,5 @@
 // Document 01's points P1 to P10, run through the proved functions and printed, a point to a line.
+use asked::asked_raw;
 use cell::kind::SWORD;
 use cell::kind::UBYTE;
 use cell::kind::UWORD;
@@ -7,7 +8,6 @@ use cell::raw::read_raw;
 use cell::raw::write_raw;
 use cell::size::size;
 use convert::asked::RawAnswer;
-use convert::asked::asked_raw;
 use convert::fraction::NUMBER;
 use convert::fraction::Physical;
 use convert::method::Coefficients;

@@ -9,7 +9,7 @@ use Rattle.number.specs.Answer.{Answer, given, refused}
 use Rattle.number.specs.Decimal.{Scaled}
 use Rattle.cell.specs.Kind.{shapeOf}
 use Rattle.cell.specs.Raw.{fitsRaw, written}
-use Rattle.convert.specs.Asked.{askedRaw}
+use Rattle.convert.specs.Asked.{roundedRaw, askedRaw}
 use Rattle.convert.specs.declared.method.Coefficients.{Coefficients}
 use Rattle.tables.specs.Form.{tablesIn, kind, first, mask, limit}
 use Rattle.tables.specs.Group.{placeOf}
@@ -28,10 +28,14 @@ module _ (t : List ℕ) (g k m : ℕ) (pk : k ≡ kind (tablesIn t) g) (pm : m �
       → a ≡ wantedRaw (tablesIn t) g (physicalText s)
   asked-is s b lo up f a e q pl pu pf h = h ∙ rw (pl, pu, pf, pk, pm, ← e, q)
 
+  pub rounded-is : (s : List ℕ) (lo up : Scaled) (f : Coefficients) (a : Answer ℤ) → lo ≡ limit (tablesIn t) g 11 → up ≡ limit (tablesIn t) g 14 → f ≡ asksBy (tablesIn t) g
+      → a ≡ roundedRaw lo up f (shapeOf k) m s → a ≡ roundedRaw (limit (tablesIn t) g 11) (limit (tablesIn t) g 14) (asksBy (tablesIn t) g) (shapeOf (kind (tablesIn t) g)) (mask (tablesIn t) g) s
+  rounded-is s lo up f a pl pu pf h = h ∙ rw (pl, pu, pf, pk, pm)
+
 pub asked-text : (t : List ℕ) (g : ℕ) (s : List ℕ) (b : Bool) → b ≡ isTabVerb (tablesIn t) g → b ≡ true → refused 15 ≡ wantedRaw (tablesIn t) g (physicalText s)
 asked-text t g s b e q = rw (← e, q)
 
-pub ruleset wants = (raw-fits, raw-unfit, asked-is, asked-text, needs)
+pub ruleset wants = (raw-fits, raw-unfit, asked-is, rounded-is, asked-text, needs)
 
 -- ---- the bytes of an accepted write; y is what the machine reads back of z
 pub store-raw-is : (t image image′ : List ℕ) (g i p k m : ℕ) (b : Bool) (z y : ℤ) → image′ ≡ written b p (shapeOf k) m y image → y ≡ z

@@ -1,18 +1,21 @@
-// The raw number that a write wants: 15, 16, 17, 18.
+// The raw number that a write wants: 15, 16, 17, 18, 16.
+use asked::asked_raw;
 use cell::raw::fits_raw;
 use convert::asked::NO_FIT;
 use convert::asked::NO_FORM;
 use convert::asked::RawAnswer;
-use convert::asked::asked_raw;
+use convert::asked::rounded_raw;
 use look::method::asks_by;
 use look::method::is_tab_verb;
 use tables::group::kind_of;
 use tables::group::limit_of;
 use tables::group::mask_of;
 ghost use mathlib.Core.Path.{_≡_};
+ghost use Rattle.cell.specs.Kind.{shapeOf};
+ghost use Rattle.convert.specs.Asked.{roundedRaw};
 ghost use Rattle.convert.specs.Told.{toldRaw};
-ghost use Rattle.tables.specs.Form.{tablesIn};
-ghost use Rattle.look.specs.Calls.{rawNumber, physicalText, wantedRaw};
+ghost use Rattle.tables.specs.Form.{tablesIn, lowerCell, upperCell, kind, mask, limit};
+ghost use Rattle.look.specs.Calls.{rawNumber, physicalText, asksBy, wantedRaw};
 
 // Where a group holds its lower and its upper limit.
 const LOWER: u16 = 11;
@@ -29,7 +32,7 @@ pub fn raw_wanted(t: &[u64], g: u16, value: i64) -> RawAnswer
     RawAnswer::Refused { no: NO_FIT }
 }
 
-// The raw number nearest to a physical value, by form, limits, coefficients, and type and mask.
+// The raw number nearest to a physical value, by form, limits, coefficients, type and mask, and limits on what it means.
 pub fn raw_asked(t: &[u64], g: u16, asked: &[u8]) -> RawAnswer
     ensures { λ r. ⌜ toldRaw r ≡ wantedRaw (tablesIn (now (t .entry))) g (physicalText (now (asked .entry))) ⌝ }
 {
@@ -40,4 +43,15 @@ pub fn raw_asked(t: &[u64], g: u16, asked: &[u8]) -> RawAnswer
     let upper = limit_of(t, g, UPPER);
     let k = asks_by(t, g);
     asked_raw(asked, lower, upper, k, kind_of(t, g), mask_of(t, g))
+}
+
+// The same without the limits on what it means: after a refusal 16 the number that would be stored, or 16 again where the asked value is outside.
+pub fn raw_rounded(t: &[u64], g: u16, asked: &[u8]) -> RawAnswer
+    ensures { λ r. ⌜ toldRaw r ≡ roundedRaw (limit (tablesIn (now (t .entry))) g lowerCell) (limit (tablesIn (now (t .entry))) g upperCell)
+        (asksBy (tablesIn (now (t .entry))) g) (shapeOf (kind (tablesIn (now (t .entry))) g)) (mask (tablesIn (now (t .entry))) g) (now (asked .entry)) ⌝ }
+{
+    let lower = limit_of(t, g, LOWER);
+    let upper = limit_of(t, g, UPPER);
+    let k = asks_by(t, g);
+    rounded_raw(asked, lower, upper, k, kind_of(t, g), mask_of(t, g))
 }

@@ -1,10 +1,10 @@
--- `convert::asked::asked_raw` meets its contract. Assumes nothing.
+-- `convert::asked::rounded_raw` meets its contract. Assumes nothing.
 use Rattle.convert.proofs.AskedLaws.{askeds}
-use Rattle.convert.proofs.asked.asked_raw.Statement.{statement}
-use Rattle.convert.proofs.asked.asked_raw.Tie as tie
+use Rattle.convert.proofs.asked.rounded_raw.Statement.{statement}
+use Rattle.convert.proofs.asked.rounded_raw.Tie as tie
 
-pub asked-raw-spec : {M : Type 1} → statement M
-asked-raw-spec =
+pub rounded-raw-spec : {M : Type 1} → statement M
+rounded-raw-spec =
     tie.close
     (tie.spec
     (λ c κs. search askeds)

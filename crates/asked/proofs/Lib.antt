@@ -1,0 +1,2 @@
+-- The laws behind the contracts, by the tests that the code makes.
+pub mod WithinLaws

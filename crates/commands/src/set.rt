@@ -14,6 +14,7 @@ use list::make::make_list;
 use look::call::CallAnswer;
 use look::check::group_of;
 use printing::lines::print_afresh;
+use requests::limits::refused_write;
 use requests::requested::ElementTyped;
 use requests::requested::NO_WAY;
 use requests::requested::Way;
@@ -84,7 +85,7 @@ fn set_kept(
             group_of(object, part),
             index,
         ),
-        CallAnswer::Refused { no } => refused(no),
+        CallAnswer::Refused { no } => refused_write(t, group_of(object, part), value, no),
     }
 }
 

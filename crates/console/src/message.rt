@@ -58,7 +58,7 @@ fn say_called(no: u8) {
     match no {
         14 => say(b"no such element"),
         15 => say(b"the asked value is outside its form, or a physical write under TAB_VERB"),
-        16 => say(b"the asked value is outside the limits"),
+        16 => say(b"the asked value, or the value that would be stored, is outside the limits"),
         17 => say(b"no raw value exists"),
         18 => say(b"the value doesn't fit the type or the mask"),
         19 => say(b"the element shares a byte with a stored count"),
@@ -89,10 +89,15 @@ fn say_place(no: u8, place: usize) {
     say_number(place as u64);
 }
 
-// A refusal that has no place in the text: "20 and refusals outside the load have place 0".
-pub fn refused(no: u8) -> Ending {
+// The start of a refusal that has no place in the text, up to its reason: "20 and refusals outside the load have place 0".
+pub fn say_refused(no: u8) {
     say_place(no, 0);
     say(b": ");
+}
+
+// A refusal that has no place in the text.
+pub fn refused(no: u8) -> Ending {
+    say_refused(no);
     say_reason(no);
     say(b"\n");
     Ending::Refused
@@ -100,8 +105,7 @@ pub fn refused(no: u8) -> Ending {
 
 // A refusal 20 for a file that is longer than the program's sizes.
 pub fn refused_size(what: &[u8], most: usize) -> Ending {
-    say_place(SIZES, 0);
-    say(b": ");
+    say_refused(SIZES);
     say(what);
     say(b" is longer than ");
     say_number(most as u64);

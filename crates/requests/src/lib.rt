@@ -1,2 +1,3 @@
-// The element and the write that a person names. Nothing of the reader rests on it.
+// The element and the write that a person names, and what a refused write says. Nothing of the reader rests on it.
+pub mod limits;
 pub mod requested;

@@ -1,6 +1,7 @@
 //! Damage to the tables that is aimed: at one reason of the table rule alone, or past it so that the rule is kept.
-use crate::requests::{group, method, GROUPS, METHODS, OBJECTS};
+use crate::requests::{factors, group, method, type_range, GROUPS, METHODS, OBJECTS};
 use crate::rng::Rng;
+use crate::steps::{self, Steps};
 
 /// Cells of the tables and other values for them.
 pub type Changes = Vec<(usize, u64)>;
@@ -16,12 +17,16 @@ pub struct Aim {
 }
 
 /// All aims, those that break the rule and those that keep it.
-pub const AIMS: [Aim; 16] = [
+pub const AIMS: [Aim; 20] = [
     Aim { what: "another number in IDENTICAL", breaks: true, make: other_identical },
     Aim { what: "a minus before a 0 of IDENTICAL", breaks: false, make: minus_zero },
     Aim { what: "b of LINEAR no power of ten", breaks: true, make: no_power },
     Aim { what: "e of LINEAR not 0", breaks: true, make: linear_e },
     Aim { what: "another power of ten in LINEAR", breaks: false, make: other_power },
+    Aim { what: "a coefficient of RAT_FUNC above 10^9", breaks: true, make: too_great },
+    Aim { what: "other coefficients in RAT_FUNC", breaks: false, make: other_coefficients },
+    Aim { what: "a limit over another power of ten", breaks: false, make: other_limit_power },
+    Aim { what: "limits at steps of the conversion", breaks: false, make: limits_at_steps },
     Aim { what: "a part that the kind has not", breaks: true, make: part_too_many },
     Aim { what: "a part that the kind needs removed", breaks: true, make: part_missing },
     Aim { what: "an axis of a CURVE or MAP added", breaks: false, make: axis_added },
@@ -50,6 +55,7 @@ const CURVE: u64 = 17;
 const MAP: u64 = 18;
 const IDENTICAL: u64 = 19;
 const LINEAR: u64 = 20;
+const RAT_FUNC: u64 = 21;
 
 /// The parts, in their order.
 const X: usize = 0;
@@ -147,6 +153,57 @@ fn linear_e(cells: &[u64], _: usize, rng: &mut Rng) -> Option<Changes> {
 fn other_power(cells: &[u64], _: usize, rng: &mut Rng) -> Option<Changes> {
     let at = pick_method(cells, LINEAR, rng)?;
     Some(vec![(at + 2, 10u64.pow(rng.below(7) as u32)), (at + 5, rng.below(2))])
+}
+
+/// One coefficient of a RAT_FUNC method is above 10^9.
+fn too_great(cells: &[u64], _: usize, rng: &mut Rng) -> Option<Changes> {
+    let cell = pick_method(cells, RAT_FUNC, rng)? + 1 + 2 * rng.place(4);
+    Some(vec![(cell, rng.below(2)), (cell + 1, rng.pick(&[1_000_000_001, 2_000_000_000, 1 << 32, 1 << 62, u64::MAX]))])
+}
+
+/// The coefficients of a RAT_FUNC method are others with steps worth testing limits at; perhaps a minus before a 0.
+fn other_coefficients(cells: &[u64], _: usize, rng: &mut Rng) -> Option<Changes> {
+    let at = pick_method(cells, RAT_FUNC, rng)?;
+    let mut changes = Vec::new();
+    let raws = type_range(rng.range(1, 6));
+    for (number, value) in steps::made(raws, rng).factors.into_iter().enumerate() {
+        let below = value < 0 || value == 0 && rng.one_in(3);
+        changes.extend([(at + 1 + 2 * number, below as u64), (at + 2 + 2 * number, value.unsigned_abs() as u64)]);
+    }
+    Some(changes)
+}
+
+/// The three cells of a limit, from its first one.
+fn limit_cells(at: usize, (value, power): (i64, u32)) -> [(usize, u64); 3] {
+    [(at, (value < 0) as u64), (at + 1, value.unsigned_abs()), (at + 2, power as u64)]
+}
+
+/// A limit is the same number with more places than it needs; or 0 with a minus, or over any power.
+fn other_limit_power(cells: &[u64], _: usize, rng: &mut Rng) -> Option<Changes> {
+    let (object, part) = pick_part(cells, rng, |_, _, stored| stored)?;
+    let at = part_cell(object, part, rng.pick(&[11, 14]));
+    let (whole, power) = (cells[at + 1], cells[at + 2]);
+    if whole == 0 {
+        return Some(vec![(at, rng.below(2)), (at + 2, rng.below(7))]);
+    }
+    let more = rng.below(7 - power);
+    let whole = whole * 10u64.pow(more as u32);
+    if whole > steps::MOST {
+        return None;
+    }
+    Some(vec![(at + 1, whole), (at + 2, power + more)])
+}
+
+/// The limits of a part stand at steps of its conversion.
+fn limits_at_steps(cells: &[u64], _: usize, rng: &mut Rng) -> Option<Changes> {
+    let (object, part) = pick_part(cells, rng, |_, _, stored| stored)?;
+    let old = group(cells, 3 * object + part);
+    let steps = Steps { factors: factors(cells, old)?, close: None };
+    let raws = if old[9] == 0 { type_range(old[0]) } else { (0, (old[9] >> old[9].trailing_zeros()) as i64) };
+    let [lower, upper] = steps::limits(steps, raws, rng)?;
+    let (lower, upper) =
+        (limit_cells(part_cell(object, part, 11), lower), limit_cells(part_cell(object, part, 14), upper));
+    Some([lower, upper].concat())
 }
 
 /// A part of one element where the object's kind has none.

@@ -1,7 +1,7 @@
 //! One call made on both readers, and everything it may touch compared.
 use crate::lent::Lent;
 use obarsivel::raw;
-use plain::{Line, Shown};
+use plain::{Line, Rounded, Shown};
 use std::fmt;
 
 /// A call after the load.
@@ -207,6 +207,15 @@ impl<'a> Both<'a> {
                 }
             }
         }
+    }
+
+    /// What a physical write would store, if it comes as far as its number; none for other calls.
+    pub fn rounded(&self, call: &Call, tables: &[u64]) -> Option<Rounded> {
+        let Call::WritePhysical(object, part, index, asked) = call else {
+            return None;
+        };
+        let (text, image, lines) = (self.text, &self.image, &self.lines);
+        plain::rounded(text, image, self.base, tables, lines, *object, *part, *index, asked).ok()
     }
 
     /// Tells whether images, lists and guards are the same on both sides.

@@ -9,7 +9,7 @@ use crate::requests::*;
 use crate::rng::Rng;
 use crate::token::{render, take_exponents_out};
 use obarsivel::raw;
-use plain::{Line, Refusal};
+use plain::{Line, Refusal, Rounded};
 use std::time::Instant;
 
 /// In so many seeds each large case stands once, and each word of document 000.
@@ -20,6 +20,55 @@ const WORDS_FROM: u64 = 64;
 
 /// How many answers of each number there were.
 pub type Counts = [u64; 23];
+
+/// What the test of the value that would be stored met.
+#[derive(Default)]
+pub struct Stored {
+    /// Refused with 16 for that value; among these, numbers that mean no value.
+    pub outside: u64,
+    pub no_value: u64,
+    /// Refused with 18 where the value is outside the limits too.
+    pub after_18: u64,
+    /// Accepted with a value that is a limit exactly.
+    pub at_limit: u64,
+    /// Tested with a value that is no limit but the same as one in 53 bits.
+    pub close: u64,
+    /// Tested with a number of 2^60 or more in the fraction.
+    pub wide: u64,
+}
+
+impl Stored {
+    /// Counts a physical write by what would be stored and by its answer.
+    fn count(&mut self, rounded: &Rounded, answer: u8) {
+        if answer == 18 {
+            self.after_18 += !rounded.inside() as u64;
+            return;
+        }
+        self.outside += (answer == 16) as u64;
+        let Some((top, under)) = rounded.value() else {
+            self.no_value += (answer == 16) as u64;
+            return;
+        };
+        let limits = [rounded.limits.lower, rounded.limits.upper].map(|it| (it.signed(), 10i128.pow(it.power)));
+        let exact = limits.iter().any(|&(whole, ten)| whole * under == top * ten);
+        let same = limits.iter().any(|&(whole, ten)| whole as f64 / ten as f64 == top as f64 / under as f64);
+        self.at_limit += (exact && answer == 0) as u64;
+        self.close += (same && !exact) as u64;
+        self.wide += (top.abs().max(under) >= 1 << 60) as u64;
+    }
+
+    /// The counts with their names.
+    pub fn rows(&self) -> [(&'static str, u64); 6] {
+        [
+            ("16 for it", self.outside),
+            ("no value", self.no_value),
+            ("18 before 16", self.after_18),
+            ("a limit itself", self.at_limit),
+            ("as close as 53 bits", self.close),
+            ("2^60 and more", self.wide),
+        ]
+    }
+}
 
 /// What was counted.
 #[derive(Default)]
@@ -36,6 +85,9 @@ pub struct Stats {
     /// Loads and writes made again with the same numbers without exponents.
     pub loads_without: u64,
     pub writes_without: u64,
+    /// What the test of the value that would be stored met, over good tables and over damaged ones that keep the rule.
+    pub stored: Stored,
+    pub stored_damaged: Stored,
     pub short_calls: u64,
     pub elements: u64,
 }
@@ -331,6 +383,9 @@ impl Run {
             } else {
                 self.stats.physical_answers[answer as usize] += 1;
             }
+            if let Some(rounded) = both.rounded(&call, &cells) {
+                self.stats.stored.count(&rounded, answer);
+            }
             if let Some(without) = without {
                 requests.push(format!("{without:?}"));
                 self.write_without(&mut both, &without, &cells, answer).map_err(|why| format!("{without:?}: {why}"))?;
@@ -384,7 +439,7 @@ impl Run {
                 None if rng.one_in(3) => damaged_cells(cells, text_len, image_len, rng),
                 None => vec![damaged_cell(cells, text_len, image_len, rng)],
             };
-            let call = any_call(cells, all, names, rng);
+            let mut call = any_call(cells, all, names, rng);
             // A damaged text place can make a very long listing.
             if matches!(call, Call::Listing) && text_len * both.lines.len() > 1 << 23 {
                 continue;
@@ -393,10 +448,17 @@ impl Run {
             for &(cell, value) in &changes {
                 cells[cell] = value;
             }
+            let rule = plain::keeps_rule(cells, text_len, image_len);
+            if rule && rng.one_in(2) {
+                // A write by what the cells say now.
+                call = write(cells, &elements(cells), rng).0;
+            }
             let what = format!("cells {right:?} -> {changes:?}: {call:?}");
             requests.push(what.clone());
             let answer = both.call(&call, cells).map_err(|why| format!("{what}: {why}"))?;
-            let rule = plain::keeps_rule(cells, text_len, image_len);
+            if let Some(rounded) = both.rounded(&call, cells) {
+                self.stats.stored_damaged.count(&rounded, answer);
+            }
             if rule == (answer == 22) && answer != 20 {
                 return Err(format!("{what}: rule kept {rule}, answer {answer}"));
             }

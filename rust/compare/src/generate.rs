@@ -1,6 +1,7 @@
 //! Descriptions made at random, with images that fit them.
 use crate::rng::Rng;
 use crate::spell::{decimal, spelled, with_exponent};
+use crate::steps::{self, Steps, IDENTICAL};
 use crate::token::*;
 use std::collections::HashSet;
 
@@ -14,6 +15,18 @@ pub struct Made {
 /// A data type: its word, its size, whether it is signed.
 #[derive(Clone, Copy)]
 struct Type(&'static str, u64, bool);
+
+impl Type {
+    /// Its lowest and highest raw number, or those that a mask leaves (0: no mask).
+    fn raws(self, mask: u64) -> (i64, i64) {
+        let bits = 8 * self.1;
+        match (mask, self.2) {
+            (0, true) => (-(1 << (bits - 1)), (1 << (bits - 1)) - 1),
+            (0, false) => (0, (1 << bits) - 1),
+            _ => (0, (mask >> mask.trailing_zeros()) as i64),
+        }
+    }
+}
 
 /// The six data types.
 const TYPES: [Type; 6] = [
@@ -50,13 +63,26 @@ struct Layout {
     align: [Option<u64>; 3],
 }
 
+impl Layout {
+    /// The data type of one of its parts.
+    fn data(&self, what: What) -> Option<Type> {
+        self.parts.iter().find(|it| it.what == what).map(|it| it.data)
+    }
+
+    /// The lowest and highest raw number of one of its parts; those of a byte where it is not stored.
+    fn raws(&self, what: What, mask: u64) -> (i64, i64) {
+        self.data(what).map_or((0, 255), |data| data.raws(mask))
+    }
+}
+
 /// The generator's state.
 struct Maker<'r> {
     rng: &'r mut Rng,
     objects: HashSet<Vec<u8>>,
     others: HashSet<Vec<u8>>,
     blocks: Vec<Vec<Token>>,
-    methods: Vec<Vec<u8>>,
+    /// The methods' names and steps; a verbal one has none.
+    methods: Vec<(Vec<u8>, Option<Steps>)>,
     tables: Vec<Vec<u8>>,
     layouts: Vec<Layout>,
     axes: Vec<(Vec<u8>, u64)>,
@@ -141,6 +167,12 @@ fn coefficient(rng: &mut Rng) -> (i64, u32) {
         return (value, rng.below(4) as u32);
     }
     rng.pick(&SOME)
+}
+
+/// Decimals made whole at the greatest of their powers.
+fn made_whole<const MANY: usize>(decimals: [(i64, u32); MANY]) -> [i128; MANY] {
+    let power = decimals.iter().map(|it| it.1).max().unwrap_or(0);
+    decimals.map(|(whole, own)| whole as i128 * 10i128.pow(power - own))
 }
 
 /// Makes a description and an image that fits it.
@@ -255,39 +287,54 @@ impl Maker<'_> {
         self.decimal(Kind::Decimal, value)
     }
 
-    /// Two limit tokens in order.
-    fn limits(&mut self) -> Vec<Token> {
-        const SOME: [((i64, u32), (i64, u32)); 12] = [
-            ((0, 0), (100, 0)),
-            ((0, 0), (65535, 0)),
-            ((-32768, 0), (32767, 0)),
-            ((-1_000_000_000, 0), (1_000_000_000, 0)),
-            ((0, 0), (4_294_967_295, 0)),
-            ((-9_999_999_999, 0), (9_999_999_999, 0)),
-            ((-40, 0), (875, 1)),
-            ((5, 1), (5, 1)),
-            ((0, 0), (0, 0)),
-            ((-5, 1), (5, 1)),
-            ((-9_999_999_999, 6), (9_999_999_999, 6)),
-            ((-1_000_000, 0), (1_000_000, 0)),
-        ];
-        let (lower, upper) = if self.rng.one_in(4) {
-            let low = self.rng.below(3000) as i64 - 1500;
-            let power = self.rng.below(4) as u32;
-            ((low, power), (low + self.rng.below(2000) as i64, power))
-        } else {
-            self.rng.pick(&SOME)
+    /// Two limit tokens in order: at steps of a conversion for raw numbers of a range, or any.
+    fn limits(&mut self, steps: Option<Steps>, raws: (i64, i64)) -> Vec<Token> {
+        let at_steps = match steps {
+            Some(steps) if !self.rng.one_in(3) => steps::limits(steps, raws, self.rng),
+            _ => None,
         };
+        let [lower, upper] = at_steps.unwrap_or_else(|| self.any_limits());
         vec![self.decimal(Kind::Lower, lower), self.decimal(Kind::Upper, upper)]
     }
 
-    /// A conversion's name.
-    fn conversion(&mut self) -> Token {
-        if self.methods.is_empty() || self.rng.one_in(6) {
-            return token(Kind::Ref, "NO_COMPU_METHOD");
+    /// Two limits in order.
+    fn any_limits(&mut self) -> [(i64, u32); 2] {
+        const SOME: [[(i64, u32); 2]; 12] = [
+            [(0, 0), (100, 0)],
+            [(0, 0), (65535, 0)],
+            [(-32768, 0), (32767, 0)],
+            [(-1_000_000_000, 0), (1_000_000_000, 0)],
+            [(0, 0), (4_294_967_295, 0)],
+            [(-9_999_999_999, 0), (9_999_999_999, 0)],
+            [(-40, 0), (875, 1)],
+            [(5, 1), (5, 1)],
+            [(0, 0), (0, 0)],
+            [(-5, 1), (5, 1)],
+            [(-9_999_999_999, 6), (9_999_999_999, 6)],
+            [(-1_000_000, 0), (1_000_000, 0)],
+        ];
+        if self.rng.one_in(4) {
+            let low = self.rng.below(3000) as i64 - 1500;
+            let power = self.rng.below(4) as u32;
+            return [(low, power), (low + self.rng.below(2000) as i64, power)];
         }
-        let name = self.rng.pick(&self.methods);
-        token(Kind::Ref, name)
+        self.rng.pick(&SOME)
+    }
+
+    /// A conversion for raw numbers of a range: its name and its steps; a verbal one has none.
+    fn conversion(&mut self, raws: (i64, i64)) -> (Token, Option<Steps>) {
+        if raws.1 >= i32::MAX as i64 && self.rng.one_in(2) {
+            // One of its own, whose fractions have great numbers.
+            let steps = steps::great_made(raws, self.rng);
+            let group = self.coeffs(steps.factors.map(|whole| (whole as i64, 0)));
+            let name = self.add_method("RAT_FUNC", vec![group], Some(steps));
+            return (token(Kind::Ref, name), Some(steps));
+        }
+        if self.methods.is_empty() || self.rng.one_in(6) {
+            return (token(Kind::Ref, "NO_COMPU_METHOD"), Some(Steps { factors: IDENTICAL, close: None }));
+        }
+        let (name, steps) = self.rng.pick(&self.methods);
+        (token(Kind::Ref, name), steps)
     }
 
     /// An input quantity.
@@ -551,8 +598,8 @@ impl Maker<'_> {
 
     /// COMPU_METHOD.
     fn method(&mut self) {
-        let name = self.name(false);
         let mut groups = Vec::new();
+        let mut steps = Some(Steps { factors: IDENTICAL, close: None });
         let kind = match self.rng.below(8) {
             0 => "IDENTICAL",
             1 | 2 => {
@@ -564,44 +611,60 @@ impl Maker<'_> {
                 group.push(self.decimal(Kind::Coeff, first));
                 group.push(self.decimal(Kind::Coeff, second));
                 groups.push(group);
+                let [one, first, second] = made_whole([(1, 0), first, second]);
+                steps = Some(Steps { factors: [one, -second, 0, first], close: None });
                 "LINEAR"
             }
             3 | 4 if !self.tables.is_empty() => {
                 let table = self.rng.pick(&self.tables);
                 groups.push(vec![keyword("COMPU_TAB_REF"), token(Kind::Ref, table)]);
+                steps = None;
                 "TAB_VERB"
             }
             _ => {
-                groups.push(self.coeffs());
+                let (four, made) = self.rat_func();
+                groups.push(self.coeffs(four));
+                steps = Some(made);
                 "RAT_FUNC"
             }
         };
+        self.add_method(kind, groups, steps);
+    }
+
+    /// Adds a COMPU_METHOD of a kind; its name.
+    fn add_method(&mut self, kind: &str, groups: Vec<Vec<Token>>, steps: Option<Steps>) -> Vec<u8> {
+        let name = self.name(false);
         let mut inside = vec![token(Kind::Def, &name), self.text(), choice(kind), self.text(), self.text()];
         let rest = self.optional(groups, Vec::new(), 3);
         inside.extend(rest);
         self.blocks.push(block("COMPU_METHOD", inside));
-        self.methods.push(name);
+        self.methods.push((name.clone(), steps));
+        name
     }
 
-    /// COEFFS that mostly keep their rule.
-    fn coeffs(&mut self) -> Vec<Token> {
-        loop {
-            let four: Vec<(i64, u32)> = (0..4).map(|_| coefficient(self.rng)).collect();
-            let at = |number: usize| four[number].0 as i128 * 10i128.pow(6 - four[number].1);
-            let (b, c, e, f) = (at(0), at(1), at(2), at(3));
-            let power = four.iter().map(|it| it.1).max().unwrap_or(0);
-            let small = [b, c, e, f].iter().all(|it| it.abs() <= 10i128.pow(15 - power));
-            if (!small || b * f == c * e) && !self.rng.one_in(60) {
-                continue;
-            }
-            let zero = (0, 0);
-            let six = [zero, four[0], four[1], zero, four[2], four[3]];
-            let mut group = vec![keyword("COEFFS")];
-            for value in six {
-                group.push(self.decimal(Kind::Coeff, value));
-            }
-            return group;
+    /// The coefficients b, c, e, f and their steps: any that mostly keep their rule, or made for their steps.
+    fn rat_func(&mut self) -> ([(i64, u32); 4], Steps) {
+        if self.rng.one_in(2) {
+            let raws = self.rng.pick(&TYPES).raws(0);
+            let steps = steps::made(raws, self.rng);
+            return (steps.factors.map(|whole| (whole as i64, 0)), steps);
         }
+        loop {
+            let four = [(); 4].map(|()| coefficient(self.rng));
+            let factors = made_whole(four);
+            if steps::allowed(factors) || self.rng.one_in(60) {
+                return (four, Steps { factors, close: None });
+            }
+        }
+    }
+
+    /// COEFFS with b, c, e, f.
+    fn coeffs(&mut self, [b, c, e, f]: [(i64, u32); 4]) -> Vec<Token> {
+        let mut group = vec![keyword("COEFFS")];
+        for value in [(0, 0), b, c, (0, 0), e, f] {
+            group.push(self.decimal(Kind::Coeff, value));
+        }
+        group
     }
 
     /// A layout that stores these axes and values, an old one or a new one.
@@ -746,10 +809,10 @@ impl Maker<'_> {
         self.msb_first.unwrap_or(false)
     }
 
-    /// A BIT_MASK, sometimes.
-    fn mask(&mut self, data: Type, groups: &mut Vec<Vec<Token>>) {
+    /// A BIT_MASK, sometimes; the mask or 0.
+    fn mask(&mut self, data: Type, groups: &mut Vec<Vec<Token>>) -> u64 {
         if data.2 || !self.rng.one_in(3) {
-            return;
+            return 0;
         }
         let bits = 8 * data.1;
         let full = (1u64 << bits) - 1;
@@ -761,16 +824,18 @@ impl Maker<'_> {
         };
         let number = self.whole(Kind::Mask, mask.max(1));
         groups.push(vec![keyword("BIT_MASK"), number]);
+        mask.max(1)
     }
 
     /// MEASUREMENT.
     fn measurement(&mut self) {
         let name = self.name(true);
         let data = self.rng.pick(&TYPES);
-        let mut inside = vec![token(Kind::Def, &name), self.text(), choice(data.0), self.conversion()];
+        let (conversion, steps) = self.conversion(data.raws(0));
+        let mut inside = vec![token(Kind::Def, &name), self.text(), choice(data.0), conversion];
         inside.push(self.whole(Kind::Uint, 1));
         inside.push(self.said());
-        inside.extend(self.limits());
+        inside.extend(self.limits(steps, data.raws(0)));
         let mut groups = Vec::new();
         self.byte_order(&mut groups);
         self.mask(data, &mut groups);
@@ -809,22 +874,25 @@ impl Maker<'_> {
         inside.push(self.quantity());
         inside.push(token(Kind::Deposit, &layout.name));
         inside.push(self.said());
-        inside.push(self.conversion());
+        let raws = layout.raws(What::Axis(0), 0);
+        let (conversion, steps) = self.conversion(raws);
+        inside.push(conversion);
         inside.push(self.whole(Kind::Points, most));
-        inside.extend(self.limits());
+        inside.extend(self.limits(steps, raws));
         let rest = self.optional(groups, Vec::new(), 3);
         inside.extend(rest);
         self.blocks.push(block("AXIS_PTS", inside));
         self.axes.push((name, points[0]));
     }
 
-    /// AXIS_DESCR, of a shared axis if there is one to name.
-    fn axis_descr(&mut self, shared: Option<Vec<u8>>, most: u64) -> Vec<Token> {
+    /// AXIS_DESCR with raw numbers of a range, of a shared axis if there is one to name.
+    fn axis_descr(&mut self, shared: Option<Vec<u8>>, most: u64, raws: (i64, i64)) -> Vec<Token> {
         let mut inside = vec![choice(if shared.is_some() { "COM_AXIS" } else { "STD_AXIS" })];
         inside.push(self.quantity());
-        inside.push(self.conversion());
+        let (conversion, steps) = self.conversion(raws);
+        inside.push(conversion);
         inside.push(self.whole(Kind::Points, most));
-        inside.extend(self.limits());
+        inside.extend(self.limits(steps, raws));
         let mut groups = Vec::new();
         if let Some(mut name) = shared {
             if self.slip() && !self.measurements.is_empty() {
@@ -846,9 +914,9 @@ impl Maker<'_> {
         let (kind, axis_count) = self.rng.pick(&[("VALUE", 0), ("VAL_BLK", 0), ("CURVE", 1), ("MAP", 2)]);
         let mut stored = [false; 2];
         let mut most = [1, 1];
-        let mut axes = Vec::new();
+        let mut shared = [None, None];
         for axis in 0..axis_count {
-            let shared = if self.rng.one_in(2) && !self.axes.is_empty() {
+            shared[axis] = if self.rng.one_in(2) && !self.axes.is_empty() {
                 let (name, points) = self.rng.pick(&self.axes);
                 most[axis] = points;
                 Some(name)
@@ -857,20 +925,25 @@ impl Maker<'_> {
                 most[axis] = self.most_points();
                 None
             };
-            let said = if shared.is_none() {
+        }
+        let layout = self.layout(stored, true);
+        let mut axes = Vec::new();
+        for axis in 0..axis_count {
+            let said = if shared[axis].is_none() {
                 most[axis]
             } else if self.rng.one_in(40) && most[axis] > 1 {
                 most[axis] - 1
             } else {
                 (most[axis] + self.rng.below(3)).min(256)
             };
-            let tokens = self.axis_descr(shared, said);
+            let raws = layout.raws(What::Axis(axis), 0);
+            let tokens = self.axis_descr(shared[axis].take(), said, raws);
             if !self.slip() {
                 axes.push(tokens);
             }
         }
         if self.slip() {
-            let tokens = self.axis_descr(None, 2);
+            let tokens = self.axis_descr(None, 2, (0, 255));
             axes.push(tokens);
         }
         let mut groups = Vec::new();
@@ -879,23 +952,24 @@ impl Maker<'_> {
             let number = self.whole(Kind::Number, most[0]);
             groups.push(vec![keyword("NUMBER"), number]);
         }
-        let layout = self.layout(stored, true);
         let msb_first = self.byte_order(&mut groups);
         if self.rng.one_in(8) {
             groups.push(vec![keyword("READ_ONLY")]);
         }
-        if let Some(part) = layout.parts.iter().find(|it| it.what == What::Values) {
-            let data = part.data;
-            self.mask(data, &mut groups);
-        }
+        let mask = match layout.data(What::Values) {
+            Some(data) => self.mask(data, &mut groups),
+            None => 0,
+        };
         let address = self.address();
         self.lay_out(&layout, address, msb_first, most);
         let mut inside = vec![token(Kind::Def, &name), self.text(), choice(kind)];
         inside.push(self.whole(Kind::Address, address));
         inside.push(token(Kind::Deposit, &layout.name));
         inside.push(self.said());
-        inside.push(self.conversion());
-        inside.extend(self.limits());
+        let raws = layout.raws(What::Values, mask);
+        let (conversion, steps) = self.conversion(raws);
+        inside.push(conversion);
+        inside.extend(self.limits(steps, raws));
         let rest = self.optional(groups, axes, 3);
         inside.extend(rest);
         self.blocks.push(block("CHARACTERISTIC", inside));

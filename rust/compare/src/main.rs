@@ -11,10 +11,11 @@ mod lent;
 mod requests;
 mod rng;
 mod spell;
+mod steps;
 mod token;
 
 use aimed::AIMS;
-use case::{Counts, Run, Stats, Subject};
+use case::{Counts, Run, Stats, Stored, Subject};
 use std::path::{Path, PathBuf};
 use std::time::{Duration, Instant};
 
@@ -74,6 +75,12 @@ fn histogram(what: &str, counts: &Counts) {
     println!("{what:<18} {}", shown.join(", "));
 }
 
+/// Prints what the test of the value that would be stored met.
+fn stored(what: &str, stored: &Stored) {
+    let shown = stored.rows().map(|(name, count)| format!("{name}: {count}"));
+    println!("{what:<18} {}", shown.join(", "));
+}
+
 /// The numbers that should have occurred and have not.
 fn never(stats: &Stats) -> Vec<String> {
     let mut missing = Vec::new();
@@ -93,6 +100,14 @@ fn never(stats: &Stats) -> Vec<String> {
     }
     if stats.loads_without == 0 || stats.writes_without == 0 {
         missing.push("a load and a write without their exponents".to_string());
+    }
+    for (what, count) in stats.stored.rows() {
+        if count == 0 {
+            missing.push(format!("a stored value: {what}"));
+        }
+    }
+    if stats.stored_damaged.outside == 0 {
+        missing.push("16 for a stored value over damaged tables".to_string());
     }
     missing
 }
@@ -154,6 +169,8 @@ fn run(options: &Options) -> i32 {
     }
     let (loads, writes) = (stats.loads_without, stats.writes_without);
     println!("{:<18} loads {loads}, writes {writes}", "exponents out");
+    stored("stored value", &stats.stored);
+    stored("  damaged tables", &stats.stored_damaged);
     println!("{:<18} {}", "buffers too short", stats.short_calls);
     println!("{:<18} {}", "elements", stats.elements);
     println!("{:<18} {:.1}", "seconds", start.elapsed().as_secs_f64());

@@ -2,6 +2,7 @@
 use crate::both::Call;
 use crate::rng::Rng;
 use crate::spell::{decimal, edge, with_exponent};
+use crate::steps::{around_limit, around_pole, exact, value, Factors, IDENTICAL, MOST};
 
 /// Where the sections stand in the tables: count cell, width of a record.
 pub const OBJECTS: usize = 4;
@@ -74,7 +75,7 @@ fn wanted(cells: &[u64], all: &[(u32, u8, u32)], rng: &mut Rng) -> (u32, u8, u32
 }
 
 /// The lowest and the highest number of a data type.
-fn type_range(code: u64) -> (i64, i64) {
+pub fn type_range(code: u64) -> (i64, i64) {
     let bits = [8, 8, 8, 16, 16, 32, 32][code as usize % 7];
     if code.is_multiple_of(2) {
         (-(1 << (bits - 1)), (1 << (bits - 1)) - 1)
@@ -109,25 +110,10 @@ fn raw_value(part: &[u64], rng: &mut Rng) -> i64 {
     }
 }
 
-/// The greatest whole number of a decimal.
-const MOST: u64 = 9_999_999_999;
-
-/// A fraction as a decimal, if it is one with at most six places and ten digits.
-fn exact(top: i128, under: i128) -> Option<(i64, u32)> {
-    for power in 0..=6 {
-        let scaled = top.checked_mul(10i128.pow(power))?;
-        if under != 0 && scaled % under == 0 {
-            let whole = scaled / under;
-            return if whole.unsigned_abs() <= MOST as u128 { Some((whole as i64, power)) } else { None };
-        }
-    }
-    None
-}
-
 /// The coefficients b, c, e, f of a part's method, unless it is verbal.
-fn factors(cells: &[u64], part: &[u64]) -> Option<[i128; 4]> {
+pub fn factors(cells: &[u64], part: &[u64]) -> Option<Factors> {
     if part[8] == 0 {
-        return Some([1, 0, 0, 1]);
+        return Some(IDENTICAL);
     }
     let method = method(cells, part[8] as usize - 1);
     if method[0] == 22 {
@@ -144,43 +130,74 @@ fn factors(cells: &[u64], part: &[u64]) -> Option<[i128; 4]> {
     Some([at(0), at(1), at(2), at(3)])
 }
 
-/// A number to ask for in a part: at raw values and between two of them, around limits.
-fn asked_number(cells: &[u64], part: &[u64], rng: &mut Rng) -> (i64, u32) {
-    let limit = |from: usize| {
-        let value = part[from + 1] as i64;
-        (if part[from] == 1 { -value } else { value }, part[from + 2] as u32)
-    };
-    match rng.below(11) {
+/// The lower or the upper limit of a part, by its first cell: a whole number and its power of ten.
+fn limit(part: &[u64], from: usize) -> (i64, u32) {
+    let value = part[from + 1] as i64;
+    (if part[from] == 1 { -value } else { value }, part[from + 2] as u32)
+}
+
+/// A number to ask for in a part: at its limits, inside them, or anything.
+fn any_number(part: &[u64], rng: &mut Rng) -> (i64, u32) {
+    match rng.below(5) {
         0 | 1 => {
-            let (value, power) = limit(if rng.one_in(2) { 11 } else { 14 });
-            return (value + rng.pick(&[0, 0, 1, -1]), power);
+            let (value, power) = limit(part, rng.pick(&[11, 14]));
+            (value + rng.pick(&[0, 0, 1, -1]), power)
         }
-        2 => return (rng.below(2_000_000_000) as i64 - 1_000_000_000, rng.below(7) as u32),
-        3 => return (rng.below(2000) as i64 - 1000, rng.below(4) as u32),
-        4 => {
-            // Inside the limits.
-            let ((lower, low), (upper, up)) = (limit(11), limit(14));
+        2 => (rng.below(2_000_000_000) as i64 - 1_000_000_000, rng.below(7) as u32),
+        3 => (rng.below(2000) as i64 - 1000, rng.below(4) as u32),
+        _ => {
+            let ((lower, low), (upper, up)) = (limit(part, 11), limit(part, 14));
             let power = low.max(up);
             let (lower, upper) = (lower * 10i64.pow(power - low), upper * 10i64.pow(power - up));
             let between = lower.saturating_add(rng.below((upper.saturating_sub(lower)) as u64 + 1) as i64);
-            return (between, power);
+            (between, power)
         }
-        _ => {}
     }
-    let Some([b, c, e, f]) = factors(cells, part) else {
+}
+
+/// A number to ask for by a part's coefficients: around a limit or the pole, without a raw number, at a raw number or
+/// between two of them.
+fn number_at_steps(factors: Factors, part: &[u64], rng: &mut Rng) -> Option<(i64, u32)> {
+    let [_, _, e, f] = factors;
+    match rng.below(10) {
+        0..=3 => around_limit(factors, limit(part, rng.pick(&[11, 14])), rng),
+        4..=6 if e != 0 => around_pole(factors, rng),
+        7 | 8 if e != 0 => exact(-f, e),
+        _ => {
+            let twice = 2 * raw_value(part, rng).clamp(-(1 << 33), 1 << 33) as i128 + rng.below(2) as i128;
+            let (top, under) = value(factors, twice, 2);
+            exact(top, under)
+        }
+    }
+}
+
+/// Tells whether a number is inside the limits of a part.
+fn inside(part: &[u64], number: (i64, u32)) -> bool {
+    let at = |(value, power): (i64, u32)| value as i128 * 10i128.pow(6 - power);
+    at(limit(part, 11)) <= at(number) && at(number) <= at(limit(part, 14))
+}
+
+/// A number to ask for in a part, by its coefficients or any.
+fn number(cells: &[u64], part: &[u64], rng: &mut Rng) -> (i64, u32) {
+    if rng.one_in(3) {
+        return any_number(part, rng);
+    }
+    let Some(factors) = factors(cells, part) else {
         return (rng.below(6) as i64, 0);
     };
-    if e != 0 && rng.one_in(3) {
-        if let Some(number) = exact(-f, e) {
-            return number;
-        }
-    }
-    // The value of a raw number, or of the middle between it and the next.
-    let twice = 2 * raw_value(part, rng).clamp(-(1 << 33), 1 << 33) as i128 + rng.below(2) as i128;
-    match exact(f * twice - 2 * c, 2 * b - e * twice) {
+    match number_at_steps(factors, part, rng) {
         Some(number) => number,
         None => (rng.below(200_000) as i64 - 100_000, rng.below(4) as u32),
     }
+}
+
+/// A number to ask for in a part, mostly inside its limits.
+fn asked_number(cells: &[u64], part: &[u64], rng: &mut Rng) -> (i64, u32) {
+    let mut asked = number(cells, part, rng);
+    while !inside(part, asked) && !rng.one_in(4) {
+        asked = number(cells, part, rng);
+    }
+    asked
 }
 
 /// An asked value that is odd in form or at an edge of it.

@@ -19,7 +19,10 @@
 //! reader.write_physical(object, Part::V, 0, "12.5").unwrap();
 //! assert_eq!(reader.image(), [0xD4, 0x30]);
 //! let refusal = reader.write_physical(object, Part::V, 0, "20.001").unwrap_err();
-//! assert_eq!(refusal.to_string(), "refused 16: the asked value is outside the limits");
+//! assert_eq!(
+//!     refusal.to_string(),
+//!     "refused 16: the asked value, or the value that would be stored, is outside the limits"
+//! );
 //! ```
 #![warn(missing_docs)]
 
@@ -336,6 +339,9 @@ impl Reader {
     }
 
     /// Writes the raw value nearest to an asked physical one, a decimal such as `-12.5` or `1.2E3`.
+    ///
+    /// The limits are for the asked value and for the value that would be stored, as its exact fraction: outside of
+    /// them, or where the nearest raw value means no value, the write is refused with 16.
     pub fn write_physical(
         &mut self,
         object: u32,

@@ -2,13 +2,13 @@
 //! OBARSIVEL_MOCK_BREAK (a number of [`BREAKS`]) makes one of them wrong on
 //! purpose, so that the comparison can be seen to notice.
 use crate::raw::{TABLE_CELLS, WORK_CELLS};
-use plain::{Line, Shown};
+use plain::{Decimal, Limits, Line, Rounded, Shown};
 use std::borrow::Cow;
 use std::slice::{from_raw_parts, from_raw_parts_mut};
 use std::sync::OnceLock;
 
 /// What OBARSIVEL_MOCK_BREAK breaks, from number 1.
-pub const BREAKS: [&str; 20] = [
+pub const BREAKS: [&str; 31] = [
     "a reference that leads nowhere is placed one byte on",
     "COLUMN_DIR is read as ROW_DIR",
     "after a write, lines of other elements are left stale",
@@ -29,6 +29,17 @@ pub const BREAKS: [&str; 20] = [
     "an exponent's minus is read as a plus",
     "a number with an exponent is malformed where none is wanted",
     "an asked value's digits before its exponent are counted",
+    "the asked value alone is tested against the limits",
+    "a rounded number that means no value counts as inside the limits",
+    "16 for the stored value is given before 18",
+    "the stored value is not tested against the lower limit",
+    "the stored value may not be a limit itself",
+    "the stored value is cut to six places before it is tested",
+    "the stored value is tested as a floating-point number",
+    "the stored value's products with a limit are cut to 64 bits",
+    "the number shifted into its mask is tested",
+    "a write refused with 16 for the stored value has stored it",
+    "a raw write is tested against the limits",
 ];
 
 /// Tells whether a number is the one to break.
@@ -349,6 +360,47 @@ fn is_upper(tables: &[u64], object: u32, part: u8, asked: &[u8]) -> bool {
     limit[2] == 0 && format!("{}{}", if limit[0] == 1 { "-" } else { "" }, limit[1]).as_bytes() == asked
 }
 
+/// Where a decimal stands to a fraction whose divisor is above zero, tested in one of the ways to break it.
+fn order(limit: Decimal, (top, under): (i128, i128)) -> std::cmp::Ordering {
+    let ten = 10i128.pow(limit.power);
+    if broken(26) {
+        return (limit.signed() * 1_000_000).cmp(&((top * 1_000_000 / under) * ten));
+    }
+    if broken(27) {
+        return (limit.signed() as f64 / ten as f64).total_cmp(&(top as f64 / under as f64));
+    }
+    let (one, other) = (limit.signed() * under, top * ten);
+    if broken(28) {
+        return (one as i64).cmp(&(other as i64));
+    }
+    one.cmp(&other)
+}
+
+/// Tells whether a value is between two limits, tested in one of the ways to break it.
+fn inside(limits: Limits, value: Option<(i128, i128)>) -> bool {
+    let Some(value) = value else {
+        return broken(22);
+    };
+    let (lower, upper) = (order(limits.lower, value), order(limits.upper, value));
+    if broken(25) {
+        return lower.is_lt() && upper.is_gt();
+    }
+    (broken(24) || lower.is_le()) && upper.is_ge()
+}
+
+/// Tells whether what would be stored is inside its limits, tested in one of the ways to break it.
+fn stored_inside(rounded: &Rounded, mask: u64) -> bool {
+    let shift = if broken(29) && mask != 0 { mask.trailing_zeros() } else { 0 };
+    broken(21) || inside(rounded.limits, rounded.factors.physical(rounded.raw << shift))
+}
+
+/// The limits of a part.
+fn limits_of(tables: &[u64], object: u32, part: u8) -> Limits {
+    let cells = &tables[1542 + 19 * (3 * object as usize + part as usize) + 11..][..6];
+    let decimal = |at: usize| Decimal { below: cells[at] == 1, whole: cells[at + 1], power: cells[at + 2] as u32 };
+    Limits { lower: decimal(0), upper: decimal(3) }
+}
+
 /// Writes a raw value: 0 or the refusal's number.
 ///
 /// # Safety
@@ -385,6 +437,15 @@ pub unsafe extern "C" fn obarsivel_write_raw(
     };
     let own = if broken(3) { own_line(&tables, object, part, index) } else { None };
     let call = |image: &mut [u8], lines: &mut [Line]| {
+        if broken(31) {
+            let mut tried = (image.to_vec(), lines.to_vec());
+            plain::write_raw(text, &mut tried.0, base, &tables, &mut tried.1, object, part, index, value)?;
+            let line = plain::read(text, &tried.0, base, &tables, object, part, index)?.0;
+            let value = Some((line.first as i128, line.second as i128));
+            if line.state == 1 && !inside(limits_of(&tables, object, part), value) {
+                return Err(16);
+            }
+        }
         let answer = plain::write_raw(text, image, base, &tables, lines, object, part, index, value);
         match answer {
             Err(18) if broken(13) => {
@@ -442,7 +503,22 @@ pub unsafe extern "C" fn obarsivel_write_physical(
         }
         let before = asked.iter().take_while(|byte| !matches!(byte, b'E' | b'e')).filter(|byte| byte.is_ascii_digit());
         let asked = if broken(20) && before.count() > 10 { b"" } else { asked };
-        plain::write_physical(text, image, base, &tables, lines, object, part, index, asked)
+        if !(21..=30).any(broken) {
+            return plain::write_physical(text, image, base, &tables, lines, object, part, index, asked);
+        }
+        let rounded = plain::rounded(text, image, base, &tables, lines, object, part, index, asked)?;
+        if broken(23) && !rounded.inside() {
+            return Err(16);
+        }
+        let before = image.to_vec();
+        plain::write_raw(text, image, base, &tables, lines, object, part, index, rounded.raw as i64)?;
+        if stored_inside(&rounded, tables[1542 + 19 * (3 * object as usize + part as usize) + 9]) {
+            return Ok(());
+        }
+        if !broken(30) {
+            image.copy_from_slice(&before);
+        }
+        Err(16)
     };
     write(image, &mut columns, call, own)
 }

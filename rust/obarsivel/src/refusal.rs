@@ -43,7 +43,7 @@ impl Refusal {
             13 => "a stored count is out of range",
             14 => "no such element",
             15 => "the asked value is outside its form, or a physical write under TAB_VERB",
-            16 => "the asked value is outside the limits",
+            16 => "the asked value, or the value that would be stored, is outside the limits",
             17 => "no raw value exists",
             18 => "the value doesn't fit the type or the mask",
             19 => "the element shares a byte with a stored count",

@@ -62,6 +62,28 @@ fn reads_and_writes_keep_the_list_in_step() {
 }
 
 #[test]
+fn limits_are_for_what_gets_stored() {
+    // A charge stop in steps of 0.25 with the limit 14.4: the nearest step to 14.4 would be 14.5.
+    let text = r#"/begin PROJECT P "" /begin MODULE M ""
+        /begin RECORD_LAYOUT L FNC_VALUES 1 UBYTE ROW_DIR DIRECT /end RECORD_LAYOUT
+        /begin COMPU_METHOD C "" RAT_FUNC "%5.2" "V" COEFFS 0 4 0 0 0 1 /end COMPU_METHOD
+        /begin CHARACTERISTIC U_STOP "" VALUE 0 L 0 C 0 14.4 /end CHARACTERISTIC
+        /end MODULE /end PROJECT"#;
+    let mut reader = Description::load(text, [40], 0).unwrap();
+    let refusal = reader.write_physical(0, Part::V, 0, "14.4").unwrap_err();
+    assert_eq!(
+        refusal.to_string(),
+        "refused 16: the asked value, or the value that would be stored, is outside the limits"
+    );
+    assert_eq!(reader.image(), [40]);
+    assert_eq!(reader.write_physical(0, Part::V, 0, "14.3"), Ok(()));
+    assert_eq!((reader.image(), reader.lines().next().unwrap().raw), (&[57][..], 57));
+    // A raw write has no limits.
+    assert_eq!(reader.write_raw(0, Part::V, 0, 58), Ok(()));
+    assert_eq!(reader.lines().next().unwrap().physical, Physical::Fraction(58, 4));
+}
+
+#[test]
 fn refusals_in_words_and_places() {
     let text = TEXT.replace("COMPU_TAB_REF T", "COMPU_TAB_REF U");
     let refusal = Description::load(text.as_str(), IMAGE, 0).err().unwrap();

@@ -15,8 +15,11 @@ mod tables;
 mod token;
 mod words;
 
-pub use list::{find, make_list, read, write_physical, write_raw, Line, Shown};
+pub use convert::Factors;
+pub use list::{find, make_list, read, rounded, write_physical, write_raw, Line, Rounded, Shown};
 pub use listing::listing;
+pub use model::Limits;
+pub use number::Decimal;
 pub use tables::{check, keeps_rule, CELLS};
 pub use words::{Class, WORDS};
 

@@ -1,6 +1,6 @@
 //! The value list: finding, reading, making the list, writing.
 use crate::convert::{Factors, IDENTICAL};
-use crate::model::DataType;
+use crate::model::{DataType, Limits};
 use crate::number::read_decimal;
 use crate::place::read_stored;
 use crate::tables::*;
@@ -20,6 +20,27 @@ pub enum Shown {
     Real(f64),
     Words(u64, u64),
     Nothing,
+}
+
+/// What a physical write would store: the rounded raw number, with its part's coefficients and limits.
+#[derive(Clone, Copy, PartialEq, Eq, Debug)]
+pub struct Rounded {
+    pub raw: i128,
+    pub factors: Factors,
+    pub limits: Limits,
+}
+
+impl Rounded {
+    /// The value that the rounded number means, if it means one.
+    pub fn value(&self) -> Option<(i128, i128)> {
+        self.factors.physical(self.raw)
+    }
+
+    /// Tells whether the value that would be stored is inside the limits; no value is outside.
+    pub fn inside(&self) -> bool {
+        let Limits { lower, upper } = self.limits;
+        self.value().is_some_and(|value| lower.at_most_fraction(value) && upper.at_least_fraction(value))
+    }
 }
 
 /// How a raw value is turned into a physical one.
@@ -243,9 +264,8 @@ fn writable<'a>(
     Ok(part)
 }
 
-/// Stores a raw value (18 if it doesn't fit) and works out the lines that share a byte.
-fn store(image: &mut [u8], cells: &[u64], lines: &mut [Line], part: &Part, index: u64, raw: i128) -> Result<(), u8> {
-    let stored = part.stored_after(image, index, raw)?;
+/// Puts a whole number into an element's bytes and works out the lines that share a byte.
+fn store(image: &mut [u8], cells: &[u64], lines: &mut [Line], part: &Part, index: u64, stored: u64) {
     part.store(image, index, stored);
     let (place, bytes) = (part.place(index), part.data_type.bytes());
     let mut at = 0;
@@ -263,7 +283,41 @@ fn store(image: &mut [u8], cells: &[u64], lines: &mut [Line], part: &Part, index
         }
         at += other.elements() as usize;
     }
-    Ok(())
+}
+
+/// Rounds an asked value to what would be stored in a part: 15, 16 for the asked value, 17.
+fn round(part: &Part, cells: &[u64], asked: &[u8]) -> Result<Rounded, u8> {
+    let Meaning::Fraction(factors) = part.meaning(cells) else {
+        return Err(15);
+    };
+    let Some(asked) = read_decimal(asked).filter(|it| it.whole <= 1_000_000_000) else {
+        return Err(15);
+    };
+    let Some(limits) = limits_of(part.cells).filter(|it| it.lower.at_most(asked) && asked.at_most(it.upper)) else {
+        return Err(16);
+    };
+    let Some(raw) = factors.raw(asked) else {
+        return Err(17);
+    };
+    Ok(Rounded { raw, factors, limits })
+}
+
+/// What a physical write would store, as far as it comes before 18 and before 16 for the stored value; nothing is
+/// written. It tells which of the two a 16 is.
+#[allow(clippy::too_many_arguments)]
+pub fn rounded(
+    text: &[u8],
+    image: &[u8],
+    base: u32,
+    cells: &[u64],
+    lines: &[Line],
+    object: u32,
+    part: u8,
+    index: u32,
+    asked: &[u8],
+) -> Result<Rounded, u8> {
+    let part = writable(text, image, base, cells, lines, (object, part, index))?;
+    round(&part, cells, asked)
 }
 
 /// Writes a raw value.
@@ -280,10 +334,13 @@ pub fn write_raw(
     value: i64,
 ) -> Result<(), u8> {
     let part = writable(text, image, base, cells, lines, (object, part, index))?;
-    store(image, cells, lines, &part, index as u64, value as i128)
+    let stored = part.stored_after(image, index as u64, value as i128)?;
+    store(image, cells, lines, &part, index as u64, stored);
+    Ok(())
 }
 
-/// Writes an asked physical value, given as text.
+/// Writes an asked physical value, given as text: 15, 16 for the asked value, 17, 18, 16 for the value that would be
+/// stored.
 #[allow(clippy::too_many_arguments)]
 pub fn write_physical(
     text: &[u8],
@@ -297,18 +354,11 @@ pub fn write_physical(
     asked: &[u8],
 ) -> Result<(), u8> {
     let part = writable(text, image, base, cells, lines, (object, part, index))?;
-    let Meaning::Fraction(factors) = part.meaning(cells) else {
-        return Err(15);
-    };
-    let Some(asked) = read_decimal(asked).filter(|it| it.whole <= 1_000_000_000) else {
-        return Err(15);
-    };
-    let inside = limits_of(part.cells).is_some_and(|it| it.lower.at_most(asked) && asked.at_most(it.upper));
-    if !inside {
+    let rounded = round(&part, cells, asked)?;
+    let stored = part.stored_after(image, index as u64, rounded.raw)?;
+    if !rounded.inside() {
         return Err(16);
     }
-    let Some(raw) = factors.raw(asked) else {
-        return Err(17);
-    };
-    store(image, cells, lines, &part, index as u64, raw)
+    store(image, cells, lines, &part, index as u64, stored);
+    Ok(())
 }

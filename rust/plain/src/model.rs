@@ -84,7 +84,7 @@ impl ObjectKind {
 }
 
 /// A lower and an upper limit.
-#[derive(Clone, Copy, Debug)]
+#[derive(Clone, Copy, PartialEq, Eq, Debug)]
 pub struct Limits {
     pub lower: Decimal,
     pub upper: Decimal,

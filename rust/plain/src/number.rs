@@ -29,6 +29,16 @@ impl Decimal {
         self.at_power(power) <= other.at_power(power)
     }
 
+    /// Tells whether this decimal is at most a fraction whose divisor is above zero.
+    pub fn at_most_fraction(self, (top, under): (i128, i128)) -> bool {
+        self.signed() * under <= top * ten_to(self.power)
+    }
+
+    /// Tells whether this decimal is at least a fraction whose divisor is above zero.
+    pub fn at_least_fraction(self, (top, under): (i128, i128)) -> bool {
+        self.signed() * under >= top * ten_to(self.power)
+    }
+
     /// The three cells of a decimal: 1 if below zero, whole number, power.
     pub fn cells(self) -> [u64; 3] {
         [self.below as u64, self.whole, self.power as u64]

@@ -549,10 +549,11 @@ fn reading_47_asked_values() {
 
 #[test]
 fn reading_48_no_value_and_verbal_writes() {
-    // INT = 60/P: asked 1000 rounds to raw 0, which means no value, and is stored.
+    // INT = 60/P: raw 0 means no value; a raw write stores it (wish 2: a physical write does not).
     let body = method("RAT_FUNC", "COEFFS 0 0 60 0 1 0") + &value("UBYTE", "C", "-1000 1000", "");
     let mut set = Set::new(&body, &[9]);
-    set.physical(0, 2, 0, "1000").unwrap();
+    assert_eq!(set.physical(0, 2, 0, "1000"), Err(16));
+    set.raw(0, 2, 0, 0).unwrap();
     assert_eq!(set.rows(), ["V v 0 0 -"]);
     let body = method("TAB_VERB", "COMPU_TAB_REF T")
         + "/begin COMPU_VTAB T \"\" TAB_VERB 1 1 \"on\te\" DEFAULT_VALUE \"d\"\"q\" /end COMPU_VTAB "

@@ -45,7 +45,8 @@
  *   13 a stored count is out of range
  *   14 no such element
  *   15 the asked value is outside its form, or a physical write under TAB_VERB
- *   16 the asked value is outside the limits
+ *   16 the asked value, or the value that would be stored, is outside the
+ *      limits
  *   17 no raw value exists
  *   18 the value doesn't fit the type or the mask
  *   19 the element shares a byte with a stored count
@@ -203,15 +204,17 @@ uint32_t obarsivel_write_raw(const uint8_t *text, size_t text_len,
                              int64_t value);
 
 /* Writes the raw value nearest to an asked physical one, halves away from
- * zero (rules 8.8 to 8.12); else as obarsivel_write_raw.
+ * zero, where both the asked value and what that raw value means lie within
+ * the limits (rules 8.8 to 8.13); else as obarsivel_write_raw.
  *   asked  a decimal: optional sign, 1 to 10 digits in all, an optional point
  *          with digits on both sides, at most 6 after it; or any number of
  *          such digits with an exponent, as 1.2E3 or 5e-1 (one or two digits),
  *          that make a number of at most 10 digits, at most 6 after the point
  *          (rules 2.13 to 2.17). Its whole number, needless zeros dropped, is
  *          at most 10^9. No blanks, no end mark.
- * Answers 0, or 20, 22, 14, 21, 19, 15, 16, 17, 18, the first that holds in
- * this order (rules 9.14 to 9.16). */
+ * Answers 0, or 20, 22, 14, 21, 19, 15, 16 (the asked value), 17, 18, 16 (the
+ * value that would be stored), the first that holds in this order (rules 9.14
+ * to 9.16). */
 uint32_t obarsivel_write_physical(const uint8_t *text, size_t text_len,
                                   uint8_t *image, size_t image_len, uint32_t base,
                                   const uint64_t *tables, size_t tables_len,

@@ -1,8 +1,8 @@
 -- THE SECOND DEMAND, "or is refused", with document 02's addition: a physical write that is 16 asks for a value outside the limits, or what it would store is.
 use Prim.Native.Nat.{ℕ, zero, suc, _+_, _^_}
-use mathlib.Core.Path.{_≡_, refl, sym, ap, _∙_}
+use mathlib.Core.Path.{_≡_, refl, sym, ap, ap₂, _∙_}
 use mathlib.Core.List.{List, [], _∷_}
-use mathlib.Core.Bool.{Bool, true, false, cond, not}
+use mathlib.Core.Bool.{Bool, true, false, cond, not, _&&_}
 use mathlib.Core.Logic.{inl, inr}
 use native.Mathlib.Omega.{arith}
 use lib.Dec.{leb}
@@ -56,7 +56,7 @@ nearest-17 n k d = go (allSmall k) (signedOf (d .negative) (d .whole)) (pos (10 
 -- a value within the limits, as a line holds it
 held-within : (lower upper : Scaled) (v : Value) → InLimits lower upper (held v) → valueWithin lower upper v ≡ true
 held-within lower upper none h = let z = h .is-number in absurd (omega arith)
-held-within lower upper (number n d) h = rw (h .from-lower, h .to-upper)
+held-within lower upper (number n d) h = ap₂ _&&_ (h .from-lower) (h .to-upper)
 held-within lower upper (text a b) h = let z = h .is-number in absurd (omega arith)
 
 module _ (lower upper : Scaled) (k : Coefficients) (t : Shape) (m : ℕ) (s : List ℕ) where

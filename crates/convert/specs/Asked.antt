@@ -56,6 +56,7 @@ valueWithin lower upper (text first past) = false
 unfoldable pub meansWithin : Scaled → Scaled → Coefficients → ℤ → Bool
 meansWithin lower upper k z = valueWithin lower upper (fractionOf k z)
 
+-- 16 "for the stored one": a rounded number where what it means lies within the limits
 abbrev pub limitedRaw : Scaled → Scaled → Coefficients → Answer ℤ → Answer ℤ
 limitedRaw lower upper k a = andThen a (λ z. orRefused 16 (meansWithin lower upper k z) z)
 

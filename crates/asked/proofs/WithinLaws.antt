@@ -15,6 +15,7 @@ use Rattle.convert.specs.declared.asked.RawAnswer.{RawAnswer}
 use Rattle.convert.specs.declared.asked.RawAnswer.the-variants as raw
 use Rattle.convert.specs.Limit.{atMostFraction, fractionAtMost}
 use Rattle.convert.specs.Fraction.{Value, none, number, text, fractionOf}
+use Rattle.convert.specs.Round.{Halves}
 use Rattle.convert.specs.Asked.{valueWithin, roundedRaw, meansWithin, limitedRaw, askedRaw}
 use Rattle.convert.specs.Told.{held, toldRaw}
 
@@ -56,9 +57,9 @@ module _ (lower upper : Scaled) (k : Coefficients) (a : RawAnswer) where
   pub limited-refused : (n : ℕ) → a ≡ raw.Refused n → refused n ≡ limitedRaw lower upper k (toldRaw a)
   limited-refused n e = rw e
 
-pub asked-is : (lower upper : Scaled) (k : Coefficients) (t : Shape) (mask : ℕ) (s : List ℕ) (a r : Answer ℤ) → a ≡ roundedRaw lower upper k t mask s → r ≡ limitedRaw lower upper k a
-    → r ≡ askedRaw lower upper k t mask s
+pub asked-is : (up : Halves) (lower upper : Scaled) (k : Coefficients) (t : Shape) (mask : ℕ) (s : List ℕ) (a r : Answer ℤ) → a ≡ roundedRaw up lower upper k t mask s → r ≡ limitedRaw lower upper k a
+    → r ≡ askedRaw up lower upper k t mask s
 unfolding askedRaw
-asked-is lower upper k t mask s a r e q = q ∙ rw e
+asked-is up lower upper k t mask s a r e q = q ∙ rw e
 
 pub ruleset withins = (means-so, means-not, limited-is, limited-not, limited-refused, asked-is, needs)

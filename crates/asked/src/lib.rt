@@ -2,6 +2,7 @@
 ghost use mathlib.Core.Path.{_≡_};
 ghost use Rattle.number.specs.Told.{scaled};
 ghost use Rattle.cell.specs.Kind.{shapeOf};
+ghost use Rattle.convert.specs.Edition.{halvesOf};
 ghost use Rattle.convert.specs.Asked.{meansWithin, limitedRaw, askedRaw};
 ghost use Rattle.convert.specs.Told.{toldRaw};
 use convert::asked::OUTSIDE_LIMITS;
@@ -41,8 +42,9 @@ fn limited(answer: RawAnswer, lower: Decimal, upper: Decimal, k: Coefficients) -
     }
 }
 
-// The raw number that an asked text stores: form, limits, coefficients, type and mask, and then the limits on what it means.
+// The raw number that an asked text stores by an edition: form, limits, coefficients, type and mask, and then the limits on what it means.
 pub fn asked_raw(
+    edition: u64,
     asked: &[u8],
     lower: Decimal,
     upper: Decimal,
@@ -50,8 +52,8 @@ pub fn asked_raw(
     kind: u64,
     mask: u64,
 ) -> RawAnswer
-    ensures { λ r. ⌜ toldRaw r ≡ askedRaw (scaled lower) (scaled upper) k (shapeOf kind) mask (now (asked .entry)) ⌝ }
+    ensures { λ r. ⌜ toldRaw r ≡ askedRaw (halvesOf edition) (scaled lower) (scaled upper) k (shapeOf kind) mask (now (asked .entry)) ⌝ }
 {
-    let answer = rounded_raw(asked, lower, upper, k, kind, mask);
+    let answer = rounded_raw(edition, asked, lower, upper, k, kind, mask);
     limited(answer, lower, upper, k)
 }

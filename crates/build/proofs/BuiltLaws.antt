@@ -20,6 +20,7 @@ use Rattle.rows.specs.Sections as records
 use Rattle.rows.specs.Slots.{conversion-type}
 use Rattle.grammar.specs.Move.{View, view, viewIn}
 use Rattle.tables.specs.Form.{tableSections, headSection, objectSection, groupSection, methodSection, tableSection, entrySection}
+use Rattle.tables.specs.declared.setting.Setting.{Setting}
 use Rattle.build.specs.Build.{rowsBelow, objectRow, meaning, limitCells, xPart, yPart, valuesPart, xRow, yRow, valuesRow, groupsBelow, tableNumber, verbalRow, fractionRow, methodRow, tableRow, entryRow, built}
 use Rattle.build.specs.Row.{rowIn, rowsIn}
 use Rattle.build.specs.declared.part.Known.{Known}
@@ -132,15 +133,15 @@ within-of d g =
       entries = fit-few records.sections d records.entry g;
     }
 
-module _ (image : List ℕ) (base : ℕ) (x : List ℕ) (v : View) (e : ℕ) (w : Within v) where
+module _ (image : List ℕ) (s : Setting) (x : List ℕ) (v : View) (e : ℕ) (w : Within v) where
   abbrev headRows : List (List ℕ)
-  headRows = (0 ∷ 0 ∷ e ∷ []) ∷ []
+  headRows = (s .edition ∷ 0 ∷ e ∷ []) ∷ []
 
   abbrev objectRows : List (List ℕ)
   objectRows = rowsBelow (v .counts records.object) (objectRow v)
 
   abbrev groupRows : List (List ℕ)
-  groupRows = groupsBelow image base x v (v .counts records.object)
+  groupRows = groupsBelow image (s .base) x v (v .counts records.object)
 
   abbrev methodRows : List (List ℕ)
   methodRows = rowsBelow (v .counts records.method) (methodRow x v)
@@ -155,7 +156,7 @@ module _ (image : List ℕ) (base : ℕ) (x : List ℕ) (v : View) (e : ℕ) (w 
   wide-objects = rows-wide 3 (objectRow v) (λ i. refl) (v .counts records.object)
 
   wide-groups : Wide 19 groupRows
-  wide-groups = groups-wide image base x v (v .counts records.object)
+  wide-groups = groups-wide image (s .base) x v (v .counts records.object)
 
   wide-methods : Wide 10 methodRows
   wide-methods = rows-wide 10 (methodRow x v) (method-wide x v) (v .counts records.method)
@@ -170,7 +171,7 @@ module _ (image : List ℕ) (base : ℕ) (x : List ℕ) (v : View) (e : ℕ) (w 
   few-objects = omega (arith, w .objects, rows-long (v .counts records.object) (objectRow v))
 
   few-groups : length groupRows ≤ mostGroups
-  few-groups = omega (arith, w .objects, groups-long image base x v (v .counts records.object))
+  few-groups = omega (arith, w .objects, groups-long image (s .base) x v (v .counts records.object))
 
   few-methods : length methodRows ≤ mostMethods
   few-methods = omega (arith, w .methods, rows-long (v .counts records.method) (methodRow x v))
@@ -181,14 +182,14 @@ module _ (image : List ℕ) (base : ℕ) (x : List ℕ) (v : View) (e : ℕ) (w 
   few-entries : length entryRows ≤ mostEntries
   few-entries = omega (arith, w .entries, rows-long (v .counts records.entry) (entryRow v))
 
-  pub built-good : Good tableSections (built image base x v e)
+  pub built-good : Good tableSections (built image s x v e)
   unfolding tableSections built
   built-good =
       ((refl, tt), omega arith, (wide-objects, few-objects, (wide-groups, few-groups, (wide-methods, few-methods, (wide-tables, few-tables, (wide-entries, few-entries, refl))))))
 
   -- rows put into cells of zeros, section after section
   pub built-encode : (n : ℕ) → room tableSections ≤ n
-      → rowsIn (rowsIn (rowsIn (rowsIn (rowsIn (rowsIn (replicate n 0) headSection headRows) objectSection objectRows) groupSection groupRows) methodSection methodRows) tableSection tableRows) entrySection entryRows ≡ encode tableSections n (built image base x v e)
+      → rowsIn (rowsIn (rowsIn (rowsIn (rowsIn (rowsIn (replicate n 0) headSection headRows) objectSection objectRows) groupSection groupRows) methodSection methodRows) tableSection tableRows) entrySection entryRows ≡ encode tableSections n (built image s x v e)
   unfolding tableSections built
   built-encode n h =
       let d₀ : List (List (List ℕ)) = [] ∷ [] ∷ [] ∷ [] ∷ [] ∷ [] ∷ [] in
@@ -217,13 +218,13 @@ module _ (image : List ℕ) (base : ℕ) (x : List ℕ) (v : View) (e : ℕ) (w 
       ∙ ap (λ (u : List ℕ). rowsIn u entrySection entryRows) (rows-encode n d₄ tableSection tableRows g₄ f₄)
       ∙ rows-encode n d₅ entrySection entryRows g₅ f₅
 
-  head-first : (u₀ u₁ : List ℕ) → u₁ ≡ rowIn u₀ headSection (0 ∷ 0 ∷ e ∷ []) → u₁ ≡ rowsIn u₀ headSection headRows
+  head-first : (u₀ u₁ : List ℕ) → u₁ ≡ rowIn u₀ headSection (s .edition ∷ 0 ∷ e ∷ []) → u₁ ≡ rowsIn u₀ headSection headRows
   unfolding rowsIn
   head-first u₀ u₁ p = p
 
   -- what the code does, call by call
-  pub built-is : (u₀ u₁ u₂ u₃ u₄ u₅ u₆ : List ℕ) → u₀ ≡ replicate (length u₀) 0 → room tableSections ≤ length u₀ → u₁ ≡ rowIn u₀ headSection (0 ∷ 0 ∷ e ∷ []) → u₂ ≡ rowsIn u₁ objectSection objectRows
-      → u₃ ≡ rowsIn u₂ groupSection groupRows → u₄ ≡ rowsIn u₃ methodSection methodRows → u₅ ≡ rowsIn u₄ tableSection tableRows → u₆ ≡ rowsIn u₅ entrySection entryRows → u₆ ≡ encode tableSections (length u₀) (built image base x v e)
+  pub built-is : (u₀ u₁ u₂ u₃ u₄ u₅ u₆ : List ℕ) → u₀ ≡ replicate (length u₀) 0 → room tableSections ≤ length u₀ → u₁ ≡ rowIn u₀ headSection (s .edition ∷ 0 ∷ e ∷ []) → u₂ ≡ rowsIn u₁ objectSection objectRows
+      → u₃ ≡ rowsIn u₂ groupSection groupRows → u₄ ≡ rowsIn u₃ methodSection methodRows → u₅ ≡ rowsIn u₄ tableSection tableRows → u₆ ≡ rowsIn u₅ entrySection entryRows → u₆ ≡ encode tableSections (length u₀) (built image s x v e)
   built-is u₀ u₁ u₂ u₃ u₄ u₅ u₆ z h p₁ p₂ p₃ p₄ p₅ p₆ =
       p₆ ∙ rw (p₅, p₄, p₃, p₂, head-first u₀ u₁ p₁)
       (ap (λ (u : List ℕ). rowsIn (rowsIn (rowsIn (rowsIn (rowsIn (rowsIn u headSection headRows) objectSection objectRows) groupSection groupRows) methodSection methodRows) tableSection tableRows) entrySection entryRows) z
@@ -231,58 +232,58 @@ module _ (image : List ℕ) (base : ℕ) (x : List ℕ) (v : View) (e : ℕ) (w 
 
   -- ---- what stands in the tables
 
-  pub count-head : count (built image base x v e) headSection ≡ 1
+  pub count-head : count (built image s x v e) headSection ≡ 1
   unfolding built
   count-head = refl
 
-  pub count-objects : count (built image base x v e) objectSection ≡ v .counts records.object
+  pub count-objects : count (built image s x v e) objectSection ≡ v .counts records.object
   unfolding built
   count-objects = rows-long (v .counts records.object) (objectRow v)
 
-  pub count-groups : count (built image base x v e) groupSection ≡ v .counts records.object * 3
+  pub count-groups : count (built image s x v e) groupSection ≡ v .counts records.object * 3
   unfolding built
-  count-groups = groups-long image base x v (v .counts records.object)
+  count-groups = groups-long image (s .base) x v (v .counts records.object)
 
-  pub count-methods : count (built image base x v e) methodSection ≡ v .counts records.method
+  pub count-methods : count (built image s x v e) methodSection ≡ v .counts records.method
   unfolding built
   count-methods = rows-long (v .counts records.method) (methodRow x v)
 
-  pub count-tables : count (built image base x v e) tableSection ≡ v .counts records.table
+  pub count-tables : count (built image s x v e) tableSection ≡ v .counts records.table
   unfolding built
   count-tables = rows-long (v .counts records.table) (tableRow v)
 
-  pub count-entries : count (built image base x v e) entrySection ≡ v .counts records.entry
+  pub count-entries : count (built image s x v e) entrySection ≡ v .counts records.entry
   unfolding built
   count-entries = rows-long (v .counts records.entry) (entryRow v)
 
-  pub slot-head : (k : ℕ) → slot (built image base x v e) headSection 0 k ≡ getD (0 ∷ 0 ∷ e ∷ []) k 0
+  pub slot-head : (k : ℕ) → slot (built image s x v e) headSection 0 k ≡ getD (s .edition ∷ 0 ∷ e ∷ []) k 0
   unfolding built
   slot-head k = refl
 
-  pub slot-object : (i k : ℕ) → i < v .counts records.object → slot (built image base x v e) objectSection i k ≡ getD (objectRow v i) k 0
+  pub slot-object : (i k : ℕ) → i < v .counts records.object → slot (built image s x v e) objectSection i k ≡ getD (objectRow v i) k 0
   unfolding built
   slot-object i k h = ap (λ (r : List ℕ). getD r k 0) (rows-at (v .counts records.object) (objectRow v) i h)
 
-  pub slot-x : (i k : ℕ) → i < v .counts records.object → slot (built image base x v e) groupSection (i * 3) k ≡ getD (xRow image base x v i) k 0
+  pub slot-x : (i k : ℕ) → i < v .counts records.object → slot (built image s x v e) groupSection (i * 3) k ≡ getD (xRow image (s .base) x v i) k 0
   unfolding built
-  slot-x i k h = let z : i * 3 ≡ i * 3 + 0 = omega arith in rw z (ap (λ (r : List ℕ). getD r k 0) (groups-at image base x v (v .counts records.object) i 0 (omega arith) h))
+  slot-x i k h = let z : i * 3 ≡ i * 3 + 0 = omega arith in rw z (ap (λ (r : List ℕ). getD r k 0) (groups-at image (s .base) x v (v .counts records.object) i 0 (omega arith) h))
 
-  pub slot-y : (i k : ℕ) → i < v .counts records.object → slot (built image base x v e) groupSection (i * 3 + 1) k ≡ getD (yRow image base x v i) k 0
+  pub slot-y : (i k : ℕ) → i < v .counts records.object → slot (built image s x v e) groupSection (i * 3 + 1) k ≡ getD (yRow image (s .base) x v i) k 0
   unfolding built
-  slot-y i k h = ap (λ (r : List ℕ). getD r k 0) (groups-at image base x v (v .counts records.object) i 1 (omega arith) h)
+  slot-y i k h = ap (λ (r : List ℕ). getD r k 0) (groups-at image (s .base) x v (v .counts records.object) i 1 (omega arith) h)
 
-  pub slot-values : (i k : ℕ) → i < v .counts records.object → slot (built image base x v e) groupSection (i * 3 + 2) k ≡ getD (valuesRow image base x v i) k 0
+  pub slot-values : (i k : ℕ) → i < v .counts records.object → slot (built image s x v e) groupSection (i * 3 + 2) k ≡ getD (valuesRow image (s .base) x v i) k 0
   unfolding built
-  slot-values i k h = ap (λ (r : List ℕ). getD r k 0) (groups-at image base x v (v .counts records.object) i 2 (omega arith) h)
+  slot-values i k h = ap (λ (r : List ℕ). getD r k 0) (groups-at image (s .base) x v (v .counts records.object) i 2 (omega arith) h)
 
-  pub slot-method : (i k : ℕ) → i < v .counts records.method → slot (built image base x v e) methodSection i k ≡ getD (methodRow x v i) k 0
+  pub slot-method : (i k : ℕ) → i < v .counts records.method → slot (built image s x v e) methodSection i k ≡ getD (methodRow x v i) k 0
   unfolding built
   slot-method i k h = ap (λ (r : List ℕ). getD r k 0) (rows-at (v .counts records.method) (methodRow x v) i h)
 
-  pub slot-table : (i k : ℕ) → i < v .counts records.table → slot (built image base x v e) tableSection i k ≡ getD (tableRow v i) k 0
+  pub slot-table : (i k : ℕ) → i < v .counts records.table → slot (built image s x v e) tableSection i k ≡ getD (tableRow v i) k 0
   unfolding built
   slot-table i k h = ap (λ (r : List ℕ). getD r k 0) (rows-at (v .counts records.table) (tableRow v) i h)
 
-  pub slot-entry : (i k : ℕ) → i < v .counts records.entry → slot (built image base x v e) entrySection i k ≡ getD (entryRow v i) k 0
+  pub slot-entry : (i k : ℕ) → i < v .counts records.entry → slot (built image s x v e) entrySection i k ≡ getD (entryRow v i) k 0
   unfolding built
   slot-entry i k h = ap (λ (r : List ℕ). getD r k 0) (rows-at (v .counts records.entry) (entryRow v) i h)

@@ -18,6 +18,7 @@ use Rattle.grammar.specs.Parameter.{find}
 use Rattle.methods.specs.Methods.{coefficients}
 use Rattle.place.specs.declared.order.Entry.{Entry}
 use Rattle.tables.specs.Form.{groupWidth}
+use Rattle.tables.specs.declared.setting.Setting.{Setting}
 use Rattle.objects.specs.Object.{layoutNumber, layoutOf, firstOf, axisAt, needOf, placesOf}
 use Rattle.build.specs.declared.part.Source.{Source}
 use Rattle.build.specs.declared.part.Known.{Known}
@@ -203,12 +204,12 @@ tableRow v i = v .slots table i first-held ∷ (entriesEnd v i - v .slots table 
 abbrev pub entryRow : View → ℕ → List ℕ
 entryRow v i = min (v .slots entry i entry-sign) 1 ∷ v .slots entry i entry-size ∷ v .slots entry i entry-text ∷ v .slots entry i entry-text-past ∷ []
 
--- ---- all of it: head, objects, groups, methods, tables, entries
-unfoldable pub built : List ℕ → ℕ → List ℕ → View → ℕ → List (List (List ℕ))
-built image base x v elements =
-    ((0 ∷ 0 ∷ elements ∷ []) ∷ [])
+-- ---- all of it: head ("The load takes the edition, .. and the tables keep it."), objects, groups, methods, tables, entries
+unfoldable pub built : List ℕ → Setting → List ℕ → View → ℕ → List (List (List ℕ))
+built image s x v elements =
+    ((s .edition ∷ 0 ∷ elements ∷ []) ∷ [])
     ∷ rowsBelow (v .counts object) (objectRow v)
-    ∷ groupsBelow image base x v (v .counts object)
+    ∷ groupsBelow image (s .base) x v (v .counts object)
     ∷ rowsBelow (v .counts method) (methodRow x v)
     ∷ rowsBelow (v .counts table) (tableRow v)
     ∷ rowsBelow (v .counts entry) (entryRow v)

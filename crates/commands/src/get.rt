@@ -10,6 +10,7 @@ use console::message::refused;
 use console::sizes::LINES;
 use console::sizes::WORD_ROOM;
 use console::sizes::front;
+use console::words::word_at;
 use convert::fraction::Physical;
 use convert::fraction::Shown;
 use list::make::make_list;
@@ -146,9 +147,9 @@ pub fn get(x: &[u8], image: &[u8], base: u32, t: &[u64]) -> Ending {
     let mut name = [0u8; WORD_ROOM];
     let mut letter = [0u8; WORD_ROOM];
     let mut number = [0u8; WORD_ROOM];
-    let n = os::arg(NAME, &mut name);
-    let l = os::arg(PART, &mut letter);
-    let k = os::arg(INDEX, &mut number);
+    let n = word_at(NAME, &mut name);
+    let l = word_at(PART, &mut letter);
+    let k = word_at(INDEX, &mut number);
     match element_named(
         x,
         image,

@@ -9,6 +9,7 @@ use console::message::refused;
 use console::sizes::LINES;
 use console::sizes::WORD_ROOM;
 use console::sizes::front;
+use console::words::word_at;
 use files::replace::is_kept;
 use list::make::make_list;
 use look::call::CallAnswer;
@@ -146,8 +147,8 @@ fn set_typed(
 ) -> Ending {
     let mut word = [0u8; WORD_ROOM];
     let mut value = [0u8; WORD_ROOM];
-    let n = os::arg(WAY, &mut word);
-    let k = os::arg(VALUE, &mut value);
+    let n = word_at(WAY, &mut word);
+    let k = word_at(VALUE, &mut value);
     match way_of(front(&word, n)) {
         Way::Raw => set_element(
             x,
@@ -180,9 +181,9 @@ pub fn set(x: &[u8], image: &mut [u8], base: u32, t: &[u64]) -> Ending {
     let mut name = [0u8; WORD_ROOM];
     let mut letter = [0u8; WORD_ROOM];
     let mut number = [0u8; WORD_ROOM];
-    let n = os::arg(NAME, &mut name);
-    let l = os::arg(PART, &mut letter);
-    let k = os::arg(INDEX, &mut number);
+    let n = word_at(NAME, &mut name);
+    let l = word_at(PART, &mut letter);
+    let k = word_at(INDEX, &mut number);
     match element_named(
         x,
         image,

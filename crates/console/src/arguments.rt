@@ -1,36 +1,48 @@
-// The program's arguments: the command, the base address, an element's part and index.
+// The program's arguments: the command, the base address, the edition, an element's part and index.
 use crate::sizes::WORD_ROOM;
 use crate::sizes::front;
+use crate::words::edition_at;
+use crate::words::has_edition;
+use crate::words::is_same;
+use crate::words::minus;
+use crate::words::word_at;
+use crate::words::word_count;
+use convert::edition::EDITION_ONE;
 use number::whole::WholeAnswer;
 use runs::whole::whole_of;
 
-// Where each argument stands.
-pub const COMMAND: usize = 1;
+// Where each argument stands, an edition before the command not counted.
+pub const COMMAND: u8 = 1;
 
-pub const DESCRIPTION: usize = 2;
+pub const DESCRIPTION: u8 = 2;
 
-pub const IMAGE: usize = 3;
+pub const IMAGE: u8 = 3;
 
-pub const BASE: usize = 4;
+pub const BASE: u8 = 4;
 
-pub const NAME: usize = 5;
+pub const NAME: u8 = 5;
 
-pub const REQUESTS: usize = 5;
+pub const REQUESTS: u8 = 5;
 
-pub const PART: usize = 6;
+pub const PART: u8 = 6;
 
-pub const INDEX: usize = 7;
+pub const INDEX: u8 = 7;
 
-pub const WAY: usize = 8;
+pub const WAY: u8 = 8;
 
-pub const VALUE: usize = 9;
+pub const VALUE: u8 = 9;
 
-// The greatest base address and the greatest index.
+// The greatest base address, the greatest index and the greatest number of an edition.
 const MOST_BASE: u64 = 4294967295;
 
 const MOST_INDEX: u64 = 4294967295;
 
+const MOST_EDITION: u64 = 4294967295;
+
 const MOST_TYPED: u64 = 18446744073709551615;
+
+// There is no such edition.
+const NO_EDITION: u32 = 0;
 
 // How many hexadecimal figures a number below 2^32 has at most.
 const MOST_FIGURES: usize = 8;
@@ -54,23 +66,6 @@ pub enum BaseTyped {
     Address(u32),
     TooLarge,
     Nothing,
-}
-
-// Whether two runs of bytes are the same.
-pub fn is_same(a: &[u8], b: &[u8]) -> bool {
-    if a.len() != b.len() {
-        return false;
-    }
-    let mut i: usize = 0;
-    while i < a.len() {
-        if i < b.len() {
-            if a[i] != b[i] {
-                return false;
-            }
-        }
-        i = i + 1;
-    }
-    true
 }
 
 // Whether a word asks for help.
@@ -100,11 +95,11 @@ fn command_of(word: &[u8]) -> Command {
 
 // The command that the program was called with; help where there is none.
 pub fn command_typed() -> Command {
-    if os::arg_count() < 2 {
+    if word_count() < 2 {
         return Command::Help;
     }
     let mut word = [0u8; WORD_ROOM];
-    let n = os::arg(COMMAND, &mut word);
+    let n = word_at(COMMAND, &mut word);
     command_of(front(&word, n))
 }
 
@@ -122,7 +117,7 @@ fn words_of(command: Command) -> usize {
 
 // Whether a command was called with the words that it has.
 pub fn has_words(command: Command) -> bool {
-    os::arg_count() == words_of(command)
+    word_count() == words_of(command)
 }
 
 // Whether a byte is a figure of a decimal or of a hexadecimal number.
@@ -154,11 +149,6 @@ fn past_zeros(word: &[u8], from: usize) -> usize {
         i += 1;
     }
     word.len()
-}
-
-// What is left of a number after another is taken away, or nothing.
-fn minus(a: usize, b: usize) -> usize {
-    if b <= a { a - b } else { 0 }
 }
 
 // Whether a word has so many figures from a place on, needless zeros aside, that it writes a number of 2^32 or more.
@@ -198,8 +188,26 @@ fn base_of(word: &[u8]) -> BaseTyped {
 // The base address that the program was called with.
 pub fn base_typed() -> BaseTyped {
     let mut word = [0u8; WORD_ROOM];
-    let n = os::arg(BASE, &mut word);
+    let n = word_at(BASE, &mut word);
     base_of(front(&word, n))
+}
+
+// The edition that a word names; one that there is not where it is no number, or greater than 32 bits hold.
+fn edition_of(word: &[u8]) -> u32 {
+    match whole_of(word, MOST_EDITION) {
+        WholeAnswer::Number(e) => (e % 4294967296) as u32,
+        WholeAnswer::Refused { no: _ } => NO_EDITION,
+    }
+}
+
+// The edition that the program was called with, and the first where none was named.
+pub fn edition_typed() -> u32 {
+    if has_edition() {
+        let mut word = [0u8; WORD_ROOM];
+        let n = edition_at(&mut word);
+        return edition_of(front(&word, n));
+    }
+    EDITION_ONE
 }
 
 // The index that a word names; one that no element has where it is greater than 32 bits hold.

@@ -6,3 +6,4 @@ mod excerpt;
 pub mod message;
 pub mod sizes;
 pub mod usage;
+pub mod words;

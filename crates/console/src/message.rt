@@ -6,8 +6,10 @@ use crate::ending::say_number;
 use crate::excerpt::say_excerpt;
 use ask::spot::spot_of;
 
-// "a lent buffer is too short, text or image too long, or base plus image above 2^32": it has no place in the text.
+// "a lent buffer is too short, text or image too long, or base plus image above 2^32", and "33 for another edition": they have no place in the text.
 const SIZES: u8 = 20;
+
+const NO_EDITION: u8 = 33;
 
 // An error that concerns a word.
 pub fn error_about(words: &[u8], word: &[u8]) -> Ending {
@@ -53,7 +55,7 @@ fn say_late(no: u8) {
     }
 }
 
-// The reason of refusals 14 to 22, those of the calls after the load.
+// The reason of refusals 14 to 22, those of the calls after the load, and of 33.
 fn say_called(no: u8) {
     match no {
         14 => say(b"no such element"),
@@ -66,7 +68,8 @@ fn say_called(no: u8) {
             b"a lent buffer is too short, text or image too long, or base plus image above 2^32",
         ),
         21 => say(b"a MEASUREMENT or READ_ONLY"),
-        _ => say(b"a lent table breaks the table rule"),
+        22 => say(b"a lent table breaks the table rule"),
+        _ => say(b"the edition is neither 1 nor 2"),
     }
 }
 
@@ -89,7 +92,7 @@ fn say_place(no: u8, place: usize) {
     say_number(place as u64);
 }
 
-// The start of a refusal that has no place in the text, up to its reason: "20 and refusals outside the load have place 0".
+// The start of a refusal that has no place in the text, up to its reason: "20 and refusals outside the load have place 0", and 33 too.
 pub fn say_refused(no: u8) {
     say_place(no, 0);
     say(b": ");
@@ -115,7 +118,7 @@ pub fn refused_size(what: &[u8], most: usize) -> Ending {
 
 // A load's refusal, with its place as line and column of the description, and that line with a mark under the column.
 pub fn refused_load(x: &[u8], no: u8, place: usize) -> Ending {
-    if no == SIZES {
+    if (no == SIZES) | (no == NO_EDITION) {
         return refused(no);
     }
     let spot = spot_of(x, place);

@@ -7,6 +7,7 @@ use crate::ending::heard;
 use crate::message::error_about;
 use crate::sizes::WORD_ROOM;
 use crate::sizes::front;
+use crate::words::word_at;
 use libc::STDERR_FILENO;
 use libc::STDOUT_FILENO;
 
@@ -35,7 +36,11 @@ fn are_words_written() -> bool {
         STDOUT_FILENO,
         b"PART is x, y or v; REQUESTS a file of lines NAME PART INDEX raw|phys VALUE, parted by tabs.\n",
     );
-    first & second
+    let third = io::write_all(
+        STDOUT_FILENO,
+        b"--edition E before the command gives the description's edition, 1 or 2; without it the edition is 1.\n",
+    );
+    first & second & third
 }
 
 // Says how the program is called.
@@ -59,7 +64,7 @@ pub fn wrong_words(command: Command) -> Ending {
 // Says that there is no command of that name.
 pub fn no_command() -> Ending {
     let mut word = [0u8; WORD_ROOM];
-    let n = os::arg(COMMAND, &mut word);
+    let n = word_at(COMMAND, &mut word);
     error_about(
         b"obarsivel help lists the commands; there is none named ",
         front(&word, n),

@@ -26,7 +26,7 @@ use Rattle.convert.specs.declared.asked.RawAnswer.the-variants as raw
 use Rattle.number.specs.Signed.{signedOf, mostSigned}
 use Rattle.convert.specs.Whole.{allSmall, Small}
 use Rattle.convert.specs.Limit.{atMost}
-use Rattle.convert.specs.Round.{Halves, away, nearest, rawFor}
+use Rattle.convert.specs.Round.{Halves, nearest, rawFor}
 use Rattle.convert.specs.Asked.{fittingRaw, askedOf, nearestRaw, roundedRaw}
 use Rattle.convert.specs.Told.{toldRaw}
 use Rattle.convert.proofs.Wholes.{abs-signed, small-told, product-fits}
@@ -104,8 +104,8 @@ module _ (t : Shape) (mask : ℕ) (a : RawAnswer) where
 pub asked-tens : (s : List ℕ) (a : DecimalAnswer) (d : Decimal) → toldDecimal a ≡ decimalOf s → a ≡ decimal.Number d → d .tens ≤ 6
 asked-tens s a d told e = decimal-form s (scaled d) (sym (ap toldDecimal e) ∙ told) .tens-most
 
-module _ (lower upper : Scaled) (k : Coefficients) (t : Shape) (mask : ℕ) (s : List ℕ) (a : DecimalAnswer) (told : toldDecimal a ≡ decimalOf s) where
-  pub asked-formless : (n : ℕ) → a ≡ decimal.Refused n → refused 15 ≡ roundedRaw lower upper k t mask s
+module _ (up : Halves) (lower upper : Scaled) (k : Coefficients) (t : Shape) (mask : ℕ) (s : List ℕ) (a : DecimalAnswer) (told : toldDecimal a ≡ decimalOf s) where
+  pub asked-formless : (n : ℕ) → a ≡ decimal.Refused n → refused 15 ≡ roundedRaw up lower upper k t mask s
   unfolding roundedRaw askedOf
   asked-formless n e = rw (sym told, e)
 
@@ -113,7 +113,7 @@ module _ (lower upper : Scaled) (k : Coefficients) (t : Shape) (mask : ℕ) (s :
     is : decimalOf s ≡ given (scaled d)
     is = sym told ∙ ap toldDecimal e
 
-    pub asked-large : 1000000000 < d .whole → refused 15 ≡ roundedRaw lower upper k t mask s
+    pub asked-large : 1000000000 < d .whole → refused 15 ≡ roundedRaw up lower upper k t mask s
     unfolding roundedRaw askedOf
     asked-large h = rw (is, lt-leb (d .whole) 1000000000 h)
 
@@ -121,11 +121,11 @@ module _ (lower upper : Scaled) (k : Coefficients) (t : Shape) (mask : ℕ) (s :
       test : (x && y) ≡ (atMost lower (scaled d) && atMost (scaled d) upper)
       test = ap₂ _&&_ ex ey
 
-      pub asked-outside : (x && y) ≡ false → refused 16 ≡ roundedRaw lower upper k t mask s
+      pub asked-outside : (x && y) ≡ false → refused 16 ≡ roundedRaw up lower upper k t mask s
       unfolding roundedRaw askedOf
       asked-outside o = rw (is, le-leb (d .whole) 1000000000 h, sym test ∙ o)
 
-      pub asked-is : {n r : Answer ℤ} → (x && y) ≡ true → n ≡ nearestRaw away k (scaled d) → r ≡ fittingRaw t mask n → r ≡ roundedRaw lower upper k t mask s
+      pub asked-is : {n r : Answer ℤ} → (x && y) ≡ true → n ≡ nearestRaw up k (scaled d) → r ≡ fittingRaw t mask n → r ≡ roundedRaw up lower upper k t mask s
       unfolding roundedRaw askedOf
       asked-is o p q = q ∙ ap (fittingRaw t mask) p ∙ rw (is, le-leb (d .whole) 1000000000 h, sym test ∙ o)
 

@@ -18,7 +18,7 @@ use Rattle.convert.specs.Limit.{formed, atMost, withinLimits, atMostFrac
 use Rattle.convert.specs.Method.{four}
 use Rattle.convert.specs.Fraction.{none, number, text, fraction, fractionOf}
 use Rattle.convert.specs.Shown.{nothing, words, shown}
-use Rattle.convert.specs.Round.{away, rounded, nearest, rawFor}
+use Rattle.convert.specs.Round.{Halves, away, toEven, rounded, nearest, rawFor}
 use Rattle.convert.specs.Verbal.{textOf, entriesFrom, verbalOf}
 use Rattle.convert.specs.Asked.{askedOf, nearestRaw, roundedRaw, meansWithin, askedRaw}
 
@@ -50,22 +50,22 @@ limits = refl
 abbrev below : ℕ → ℕ → Scaled
 below n t = record { negative = true; whole = n; tens = t }
 
--- what an asked text stores without a mask, by limits, coefficients and a data type
-abbrev storedBy : Scaled → Scaled → Coefficients → ℕ → List String → List (Answer ℤ)
-storedBy lower upper k type = map (λ (s : String). askedRaw lower upper k (shapeOf type) 0 (bytes s))
+-- what an asked text stores without a mask, by a rule on halves, limits, coefficients and a data type
+abbrev storedBy : Halves → Scaled → Scaled → Coefficients → ℕ → List String → List (Answer ℤ)
+storedBy up lower upper k type = map (λ (s : String). askedRaw up lower upper k (shapeOf type) 0 (bytes s))
 
 -- "14.4 where the controller counts in steps of 0.25. The nearest step, 14.5, went in.": 16 for what is stored, for what is asked, and 15
-steps : storedBy (over 0 0) (over 144 1) (four (pos 4) (pos 0) (pos 0) (pos 1)) UBYTE ("14.4" ∷ "14.3" ∷ "0" ∷ "14.5" ∷ "x" ∷ []) ≡ refused 16 ∷ given (pos 57) ∷ given (pos 0) ∷ refused 16 ∷ refused 15 ∷ []
+steps : storedBy away (over 0 0) (over 144 1) (four (pos 4) (pos 0) (pos 0) (pos 1)) UBYTE ("14.4" ∷ "14.3" ∷ "0" ∷ "14.5" ∷ "x" ∷ []) ≡ refused 16 ∷ given (pos 57) ∷ given (pos 0) ∷ refused 16 ∷ refused 15 ∷ []
 unfolding bytes shapes shapeOf askedOf decimalOf signedBy plainOf isE fromE withExponent pointed made lowest signs minus leading trailing valueOn allDigits digitOf formed atMost allSmall rounded nearest rawFor nearestRaw roundedRaw fitsRaw fraction fractionOf atMostFraction fractionAtMost meansWithin askedRaw
 steps = refl
 
 -- "A rounded number that means no value at all counts as outside the limits.": COEFFS 0 0 60 0 1 0, where 0 means nothing; 17 and 18 come before
-poles : storedBy (below 9999999999 0) (over 9999999999 0) (four (pos 0) (pos 60) (pos 1) (pos 0)) UBYTE ("1000" ∷ "0" ∷ "0.2" ∷ "20" ∷ []) ≡ refused 16 ∷ refused 17 ∷ refused 18 ∷ given (pos 3) ∷ []
+poles : storedBy away (below 9999999999 0) (over 9999999999 0) (four (pos 0) (pos 60) (pos 1) (pos 0)) UBYTE ("1000" ∷ "0" ∷ "0.2" ∷ "20" ∷ []) ≡ refused 16 ∷ refused 17 ∷ refused 18 ∷ given (pos 3) ∷ []
 unfolding bytes shapes shapeOf askedOf decimalOf signedBy plainOf isE fromE withExponent pointed made lowest signs minus leading trailing valueOn allDigits digitOf formed atMost allSmall rounded nearest rawFor nearestRaw roundedRaw fitsRaw fraction fractionOf atMostFraction fractionAtMost meansWithin askedRaw
 poles = refl
 
 -- thousandths from −0.0005 to 1: −0.0005 is inside, and −0.001, which is nearest to it, is not
-lower-end : storedBy (below 5 4) (over 1 0) (four (pos 1000) (pos 0) (pos 0) (pos 1)) SWORD ("-0.0005" ∷ "-0.0004" ∷ "1" ∷ []) ≡ refused 16 ∷ given (pos 0) ∷ given (pos 1000) ∷ []
+lower-end : storedBy away (below 5 4) (over 1 0) (four (pos 1000) (pos 0) (pos 0) (pos 1)) SWORD ("-0.0005" ∷ "-0.0004" ∷ "1" ∷ []) ≡ refused 16 ∷ given (pos 0) ∷ given (pos 1000) ∷ []
 unfolding bytes shapes shapeOf askedOf decimalOf signedBy plainOf isE fromE withExponent pointed made lowest signs minus leading trailing valueOn allDigits digitOf formed atMost allSmall rounded nearest rawFor nearestRaw roundedRaw fitsRaw fraction fractionOf atMostFraction fractionAtMost meansWithin askedRaw
 lower-end = refl
 
@@ -73,6 +73,31 @@ lower-end = refl
 halves : map (λ (n : ℕ). rounded away n 10) (24 ∷ 25 ∷ 26 ∷ []) ≡ 2 ∷ 3 ∷ 3 ∷ []
 unfolding rounded
 halves = refl
+
+-- to the even whole number, below zero too: 0.5, 1.5, 2.5, −0.5, −2.5
+evens : map (λ (n : ℤ). nearest toEven n (pos 2)) (pos 1 ∷ pos 3 ∷ pos 5 ∷ negℤ (pos 1) ∷ negℤ (pos 5) ∷ []) ≡ pos 0 ∷ pos 2 ∷ pos 2 ∷ pos 0 ∷ negℤ (pos 2) ∷ []
+unfolding rounded nearest
+evens = refl
+
+-- at a half the answers may differ: −0.5 into UBYTE from −1 to 255, and 2.5 from 0 to 2.9
+identical : Coefficients
+identical = four (pos 1) (pos 0) (pos 0) (pos 1)
+
+below-away : storedBy away (below 1 0) (over 255 0) identical UBYTE ("-0.5" ∷ []) ≡ refused 18 ∷ []
+unfolding bytes shapes shapeOf askedOf decimalOf signedBy plainOf isE fromE withExponent pointed made lowest signs minus leading trailing valueOn allDigits digitOf formed atMost allSmall rounded nearest rawFor nearestRaw roundedRaw fitsRaw fraction fractionOf atMostFraction fractionAtMost meansWithin askedRaw identical
+below-away = refl
+
+below-even : storedBy toEven (below 1 0) (over 255 0) identical UBYTE ("-0.5" ∷ []) ≡ given (pos 0) ∷ []
+unfolding bytes shapes shapeOf askedOf decimalOf signedBy plainOf isE fromE withExponent pointed made lowest signs minus leading trailing valueOn allDigits digitOf formed atMost allSmall rounded nearest rawFor nearestRaw roundedRaw fitsRaw fraction fractionOf atMostFraction fractionAtMost meansWithin askedRaw identical
+below-even = refl
+
+above-away : storedBy away (over 0 0) (over 29 1) identical UBYTE ("2.5" ∷ []) ≡ refused 16 ∷ []
+unfolding bytes shapes shapeOf askedOf decimalOf signedBy plainOf isE fromE withExponent pointed made lowest signs minus leading trailing valueOn allDigits digitOf formed atMost allSmall rounded nearest rawFor nearestRaw roundedRaw fitsRaw fraction fractionOf atMostFraction fractionAtMost meansWithin askedRaw identical
+above-away = refl
+
+above-even : storedBy toEven (over 0 0) (over 29 1) identical UBYTE ("2.5" ∷ []) ≡ given (pos 2) ∷ []
+unfolding bytes shapes shapeOf askedOf decimalOf signedBy plainOf isE fromE withExponent pointed made lowest signs minus leading trailing valueOn allDigits digitOf formed atMost allSmall rounded nearest rawFor nearestRaw roundedRaw fitsRaw fraction fractionOf atMostFraction fractionAtMost meansWithin askedRaw identical
+above-even = refl
 
 -- a table of the numbers 1 and −2 from entry 1 on, with a default at 90 to 95, and with none
 table : List (List ℕ)

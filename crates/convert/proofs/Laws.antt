@@ -20,7 +20,7 @@ use Rattle.convert.specs.Whole.{eqZ, allSmall}
 use Rattle.convert.specs.Limit.{withinLimits, atMostFraction, fractionAtMost}
 use Rattle.convert.specs.Method.{sameProducts}
 use Rattle.convert.specs.Fraction.{Value, none, number, text, turned, fraction, fractionOf}
-use Rattle.convert.specs.Round.{Halves, away, nearest, roundedQuotient, rawFor}
+use Rattle.convert.specs.Round.{Halves, nearest, roundedQuotient, rawFor}
 use Rattle.convert.specs.Asked.{andThen, orRefused, asDecimal, askedOf, nearestRaw, fittingRaw, roundedRaw, valueWithin, meansWithin, askedRaw}
 use Rattle.convert.proofs.Wholes.{left-true, right-true}
 use Rattle.convert.proofs.Rounds.{within-half, met, quotient-is}
@@ -136,11 +136,11 @@ module _ (up : Halves) (k : Coefficients) (i : ℤ) (s : sameProducts k ≡ fals
           ap₂ (rawFor up k) (sym x) (sym y) ∙ turned-over
 
 -- ---- a physical write that is not refused: its value has the form, lies within the limits, the nearest raw number fits, and means a number within them
-pub record Stores (lower upper : Scaled) (k : Coefficients) (t : Shape) (mask : ℕ) (s : List ℕ) (z : ℤ) : Type 0 where
+pub record Stores (up : Halves) (lower upper : Scaled) (k : Coefficients) (t : Shape) (mask : ℕ) (s : List ℕ) (z : ℤ) : Type 0 where
   pub asked : Scaled
   pub form : askedOf s ≡ given asked
   pub within : withinLimits lower upper asked ≡ true
-  pub near : nearestRaw away k asked ≡ given z
+  pub near : nearestRaw up k asked ≡ given z
   pub fits : fitsRaw t mask z ≡ true
   pub means : meansWithin lower upper k z ≡ true
 
@@ -153,29 +153,29 @@ good : {A : Type 0} (n : ℕ) (b : Bool) (a x : A) → orRefused n b a ≡ given
 good n true a x h = (refl, cc)
 good n false a x h = let y : _≡_ {A = ℕ} 0 1 = cc in absurd (omega arith)
 
-module _ (lower upper : Scaled) (k : Coefficients) (t : Shape) (mask : ℕ) (s : List ℕ) (z : ℤ) where
+module _ (up : Halves) (lower upper : Scaled) (k : Coefficients) (t : Shape) (mask : ℕ) (s : List ℕ) (z : ℤ) where
   -- of the rounded number
-  rounded-stores : roundedRaw lower upper k t mask s ≡ given z → meansWithin lower upper k z ≡ true → Stores lower upper k t mask s z
+  rounded-stores : roundedRaw up lower upper k t mask s ≡ given z → meansWithin lower upper k z ≡ true → Stores up lower upper k t mask s z
   unfolding roundedRaw
   rounded-stores h m =
-      let a = gave (askedOf s) (λ d. andThen (orRefused 16 (withinLimits lower upper d) d) (λ d. fittingRaw t mask (nearestRaw away k d))) z h in
-      let b = gave (orRefused 16 (withinLimits lower upper (a .0)) (a .0)) (λ d. fittingRaw t mask (nearestRaw away k d)) z (a .2) in
+      let a = gave (askedOf s) (λ d. andThen (orRefused 16 (withinLimits lower upper d) d) (λ d. fittingRaw t mask (nearestRaw up k d))) z h in
+      let b = gave (orRefused 16 (withinLimits lower upper (a .0)) (a .0)) (λ d. fittingRaw t mask (nearestRaw up k d)) z (a .2) in
       let w = good 16 (withinLimits lower upper (a .0)) (a .0) (b .0) (b .1) in
-      let c = gave (nearestRaw away k (b .0)) (λ y. orRefused 18 (fitsRaw t mask y) y) z (b .2) in
+      let c = gave (nearestRaw up k (b .0)) (λ y. orRefused 18 (fitsRaw t mask y) y) z (b .2) in
       let f = good 18 (fitsRaw t mask (c .0)) (c .0) z (c .2) in
       record {
         asked = a .0;
         form = a .1;
         within = w .0;
-        near = ap (nearestRaw away k) (w .1) ∙ c .1 ∙ ap given (f .1);
+        near = ap (nearestRaw up k) (w .1) ∙ c .1 ∙ ap given (f .1);
         fits = ap (fitsRaw t mask) (sym (f .1)) ∙ f .0;
         means = m;
       }
 
-  pub asked-stores : askedRaw lower upper k t mask s ≡ given z → Stores lower upper k t mask s z
+  pub asked-stores : askedRaw up lower upper k t mask s ≡ given z → Stores up lower upper k t mask s z
   unfolding askedRaw
   asked-stores h =
-      let a = gave (roundedRaw lower upper k t mask s) (λ y. orRefused 16 (meansWithin lower upper k y) y) z h in
+      let a = gave (roundedRaw up lower upper k t mask s) (λ y. orRefused 16 (meansWithin lower upper k y) y) z h in
       let m = good 16 (meansWithin lower upper k (a .0)) (a .0) z (a .2) in
       rounded-stores (a .1 ∙ ap given (m .1)) (ap (meansWithin lower upper k) (sym (m .1)) ∙ m .0)
 
@@ -208,51 +208,58 @@ means-number lower upper k z h =
     record { n = m .0; d = m .1; exact = guard-exact lower upper (allSmall k && ltb (natAbs z) (2 ^ 32)) (fraction k z) h; is = m .2; low = m .3; high = m .4 }
 
 -- ---- a physical write's refusal is 15, 16, 17 or 18
--- an answer that refuses by these numbers alone
-abbrev pub Numbered : {A : Type 0} → Answer A → Type 0
-Numbered a = (n : ℕ) → a ≡ refused n → (15 ≤ n) × (n ≤ 18)
+-- an answer that refuses by numbers of which P holds, and by no other
+abbrev pub Numbered : (ℕ → Type 0) → {A : Type 0} → Answer A → Type 0
+Numbered P a = (n : ℕ) → a ≡ refused n → P n
 
-numbered-given : {A : Type 0} (x : A) → Numbered (given x)
-numbered-given x n h = let y : _≡_ {A = ℕ} 0 1 = cc in absurd (omega arith)
+module _ (P : ℕ → Type 0) where
+  numbered-given : {A : Type 0} (x : A) → Numbered P (given x)
+  numbered-given x n h = let y : _≡_ {A = ℕ} 0 1 = cc in absurd (omega arith)
 
-numbered-refused : {A : Type 0} (k : ℕ) → 15 ≤ k → k ≤ 18 → Numbered {A = A} (refused k)
-numbered-refused k l m n h = let e : k ≡ n = cc in (omega arith, omega arith)
+  numbered-refused : {A : Type 0} (k : ℕ) → P k → Numbered P {A = A} (refused k)
+  numbered-refused k p n h = let e : k ≡ n = cc in subst P e p
 
-numbered-or : {A : Type 0} (k : ℕ) (b : Bool) (x : A) → 15 ≤ k → k ≤ 18 → Numbered (orRefused k b x)
-numbered-or k true x l m = numbered-given x
-numbered-or k false x l m = numbered-refused k l m
+  pub numbered-or : {A : Type 0} (k : ℕ) (b : Bool) (x : A) → P k → Numbered P (orRefused k b x)
+  numbered-or k true x p = numbered-given x
+  numbered-or k false x p = numbered-refused k p
 
-numbered-then : {A B : Type 0} (a : Answer A) (f : A → Answer B) → Numbered a → ((x : A) → Numbered (f x)) → Numbered (andThen a f)
-numbered-then (given x) f p q = q x
-numbered-then (refused k) f p q = λ n h. p n (let e : k ≡ n = cc in ap refused e)
+  pub numbered-then : {A B : Type 0} (a : Answer A) (f : A → Answer B) → Numbered P a → ((x : A) → Numbered P (f x)) → Numbered P (andThen a f)
+  numbered-then (given x) f p q = q x
+  numbered-then (refused k) f p q = λ n h. p n (let e : k ≡ n = cc in ap refused e)
 
-numbered-form : (a : Answer Scaled) → Numbered (asDecimal a)
-numbered-form (given d) = numbered-or 15 (leb (d .whole) 1000000000) d (lit≤ tt) (lit≤ tt)
-numbered-form (refused k) = numbered-refused 15 (lit≤ tt) (lit≤ tt)
+  -- the form is 15
+  pub numbered-form : P 15 → (a : Answer Scaled) → Numbered P (asDecimal a)
+  numbered-form p (given d) = numbered-or 15 (leb (d .whole) 1000000000) d p
+  numbered-form p (refused k) = numbered-refused 15 p
 
-numbered-quotient : (up : Halves) (n d : ℤ) → Numbered (roundedQuotient up n d)
-numbered-quotient up n (pos zero) = numbered-refused 17 (lit≤ tt) (lit≤ tt)
-numbered-quotient up n (pos (suc d)) = numbered-given (nearest up n (pos (suc d)))
-numbered-quotient up n (negsuc d) = numbered-given (nearest up n (negsuc d))
+  -- no raw value is 17
+  numbered-quotient : P 17 → (up : Halves) (n d : ℤ) → Numbered P (roundedQuotient up n d)
+  numbered-quotient p up n (pos zero) = numbered-refused 17 p
+  numbered-quotient p up n (pos (suc d)) = numbered-given (nearest up n (pos (suc d)))
+  numbered-quotient p up n (negsuc d) = numbered-given (nearest up n (negsuc d))
 
-numbered-near : (up : Halves) (k : Coefficients) (d : Scaled) → Numbered (nearestRaw up k d)
-unfolding nearestRaw rawFor
-numbered-near up k d = go (allSmall k) (signedOf (d .negative) (d .whole)) (pos (10 ^ d .tens))
-  where
-    go : (b : Bool) (p q : ℤ) → Numbered (cond b (roundedQuotient up (k .b *ℤ p +ℤ k .c *ℤ q) (k .e *ℤ p +ℤ k .f *ℤ q)) (refused 17))
-    go true p q = numbered-quotient up (k .b *ℤ p +ℤ k .c *ℤ q) (k .e *ℤ p +ℤ k .f *ℤ q)
-    go false p q = numbered-refused 17 (lit≤ tt) (lit≤ tt)
+  pub numbered-near : P 17 → (up : Halves) (k : Coefficients) (d : Scaled) → Numbered P (nearestRaw up k d)
+  unfolding nearestRaw rawFor
+  numbered-near h up k d = go (allSmall k) (signedOf (d .negative) (d .whole)) (pos (10 ^ d .tens))
+    where
+      go : (b : Bool) (p q : ℤ) → Numbered P (cond b (roundedQuotient up (k .b *ℤ p +ℤ k .c *ℤ q) (k .e *ℤ p +ℤ k .f *ℤ q)) (refused 17))
+      go true p q = numbered-quotient h up (k .b *ℤ p +ℤ k .c *ℤ q) (k .e *ℤ p +ℤ k .f *ℤ q)
+      go false p q = numbered-refused 17 h
 
-numbered-rounded : (lower upper : Scaled) (k : Coefficients) (t : Shape) (mask : ℕ) (s : List ℕ) → Numbered (roundedRaw lower upper k t mask s)
-unfolding roundedRaw askedOf
-numbered-rounded lower upper k t mask s =
-    numbered-then _ _ (numbered-form (decimalOf s)) (λ d.
-    numbered-then _ _ (numbered-or 16 (withinLimits lower upper d) d (lit≤ tt) (lit≤ tt)) (λ d.
-    numbered-then _ _ (numbered-near away k d) (λ z.
-    numbered-or 18 (fitsRaw t mask z) z (lit≤ tt) (lit≤ tt))))
+-- document 01's four numbers
+abbrev pub AskedNumber : ℕ → Type 0
+AskedNumber n = (15 ≤ n) × (n ≤ 18)
 
--- A REFUSED PHYSICAL WRITE has one of document 01's four numbers: 15, 16, 17, 18.
-pub asked-numbers : (lower upper : Scaled) (k : Coefficients) (t : Shape) (mask : ℕ) (s : List ℕ) → Numbered (askedRaw lower upper k t mask s)
-unfolding askedRaw
-asked-numbers lower upper k t mask s =
-    numbered-then _ _ (numbered-rounded lower upper k t mask s) (λ z. numbered-or 16 (meansWithin lower upper k z) z (lit≤ tt) (lit≤ tt))
+module _ (up : Halves) (lower upper : Scaled) (k : Coefficients) (t : Shape) (mask : ℕ) (s : List ℕ) where
+  numbered-rounded : Numbered AskedNumber (roundedRaw up lower upper k t mask s)
+  unfolding roundedRaw askedOf
+  numbered-rounded =
+      numbered-then AskedNumber _ _ (numbered-form AskedNumber (lit≤ tt, lit≤ tt) (decimalOf s)) (λ d.
+      numbered-then AskedNumber _ _ (numbered-or AskedNumber 16 (withinLimits lower upper d) d (lit≤ tt, lit≤ tt)) (λ d.
+      numbered-then AskedNumber _ _ (numbered-near AskedNumber (lit≤ tt, lit≤ tt) up k d) (λ z.
+      numbered-or AskedNumber 18 (fitsRaw t mask z) z (lit≤ tt, lit≤ tt))))
+
+  -- A REFUSED PHYSICAL WRITE has one of document 01's four numbers: 15, 16, 17, 18.
+  pub asked-numbers : Numbered AskedNumber (askedRaw up lower upper k t mask s)
+  unfolding askedRaw
+  asked-numbers = numbered-then AskedNumber _ _ numbered-rounded (λ z. numbered-or AskedNumber 16 (meansWithin lower upper k z) z (lit≤ tt, lit≤ tt))

@@ -6,6 +6,7 @@ pub mod LimitLaws
 pub mod MethodLaws
 pub mod Floats
 pub mod Rounds
+pub mod EditionLaws
 pub mod RoundLaws
 pub mod Showns
 pub mod AskedLaws

@@ -13,7 +13,7 @@ use mir.Val.{Fits, SFits}
 use Rattle.cell.proofs.Signed.{back}
 use Rattle.number.proofs.Signs.{under-most}
 use Rattle.number.specs.Signed.{signedOf}
-use Rattle.convert.specs.Round.{away, rounded, nearest}
+use Rattle.convert.specs.Round.{Halves, rounded, nearest}
 use Rattle.convert.proofs.Wholes.{sized}
 use Rattle.convert.proofs.Rounds.{rounded-down, rounded-up, rounded-le, nearest-neg, nearest-pos}
 
@@ -32,19 +32,19 @@ pub size-some : (z : ℤ) (m : ℕ) → m ≡ natAbs (back z) → SFits w64 z �
 size-some z m e f h = omega (arith, sized z (f .sfits) e)
 
 -- ---- with signs: r is the rounded size, and y what the machine reads back of z
-module _ (n d : ℤ) (m e r : ℕ) (em : m ≡ natAbs (back n)) (ee : e ≡ natAbs (back d)) (er : r ≡ rounded away m e) (fn : SFits w64 n) (fd : SFits w64 d) where
+module _ (up : Halves) (n d : ℤ) (m e r : ℕ) (em : m ≡ natAbs (back n)) (ee : e ≡ natAbs (back d)) (er : r ≡ rounded up m e) (fn : SFits w64 n) (fd : SFits w64 d) where
   pub rounded-fits : natAbs n < 2 ^ 61 → r < 2 ^ 63
-  rounded-fits h = omega (arith, er, rounded-le m e, sized n (fn .sfits) em)
+  rounded-fits h = omega (arith, er, rounded-le up m e, sized n (fn .sfits) em)
 
-  size-is : r ≡ rounded away (natAbs n) (natAbs d)
-  size-is = er ∙ ap₂ (rounded away) (sized n (fn .sfits) em) (sized d (fd .sfits) ee)
+  size-is : r ≡ rounded up (natAbs n) (natAbs d)
+  size-is = er ∙ ap₂ (rounded up) (sized n (fn .sfits) em) (sized d (fd .sfits) ee)
 
-  pub nearest-below : (y z : ℤ) → ltZ (back n) (pos 0) ≡ true → z ≡ signedOf (leZ (pos 0) (back d)) r → y ≡ z → y ≡ nearest away n d
+  pub nearest-below : (y z : ℤ) → ltZ (back n) (pos 0) ≡ true → z ≡ signedOf (leZ (pos 0) (back d)) r → y ≡ z → y ≡ nearest up n d
   nearest-below y z h ez ey =
-      ey ∙ ez ∙ (λ i. signedOf (leZ (pos 0) (toZ-ofZ fd i)) (size-is i)) ∙ sym (nearest-neg n d (sym (ap (λ (x : ℤ). ltZ x (pos 0)) (toZ-ofZ fn)) ∙ h))
+      ey ∙ ez ∙ (λ i. signedOf (leZ (pos 0) (toZ-ofZ fd i)) (size-is i)) ∙ sym (nearest-neg up n d (sym (ap (λ (x : ℤ). ltZ x (pos 0)) (toZ-ofZ fn)) ∙ h))
 
-  pub nearest-above : (y z : ℤ) → ltZ (back n) (pos 0) ≡ false → z ≡ signedOf (ltZ (back d) (pos 0)) r → y ≡ z → y ≡ nearest away n d
+  pub nearest-above : (y z : ℤ) → ltZ (back n) (pos 0) ≡ false → z ≡ signedOf (ltZ (back d) (pos 0)) r → y ≡ z → y ≡ nearest up n d
   nearest-above y z h ez ey =
-      ey ∙ ez ∙ (λ i. signedOf (ltZ (toZ-ofZ fd i) (pos 0)) (size-is i)) ∙ sym (nearest-pos n d (sym (ap (λ (x : ℤ). ltZ x (pos 0)) (toZ-ofZ fn)) ∙ h))
+      ey ∙ ez ∙ (λ i. signedOf (ltZ (toZ-ofZ fd i) (pos 0)) (size-is i)) ∙ sym (nearest-pos up n d (sym (ap (λ (x : ℤ). ltZ x (pos 0)) (toZ-ofZ fn)) ∙ h))
 
 pub ruleset rounds = (under-most, twice-fits, next-fits, rounded-down, rounded-up, size-below, size-some, rounded-fits, nearest-below, nearest-above, needs)

@@ -13,7 +13,7 @@ use Rattle.number.specs.Signed.{signedOf}
 use Rattle.convert.specs.Whole.{allSmall}
 use Rattle.convert.specs.Limit.{withinLimits, atMostFraction, fractionAtMost}
 use Rattle.convert.specs.Fraction.{Value, none, number, text, fractionOf}
-use Rattle.convert.specs.Round.{Halves, away, rawFor}
+use Rattle.convert.specs.Round.{Halves, rawFor}
 
 -- The first of several judgements that refuses.
 abbrev pub andThen : {A B : Type 0} → Answer A → (A → Answer B) → Answer B
@@ -39,12 +39,12 @@ nearestRaw up k d = cond (allSmall k) (rawFor up k (signedOf (d .negative) (d .w
 abbrev pub fittingRaw : Shape → ℕ → Answer ℤ → Answer ℤ
 fittingRaw t mask a = andThen a (λ z. orRefused 18 (fitsRaw t mask z) z)
 
--- "Write order: .. 15, 16, 17, 18": form, limits, nearest raw number, type and mask: the rounded number that an asked text has.
-unfoldable pub roundedRaw : Scaled → Scaled → Coefficients → Shape → ℕ → List ℕ → Answer ℤ
-roundedRaw lower upper k t mask s =
+-- "Write order: .. 15, 16, 17, 18": form, limits, nearest raw number, type and mask: the rounded number that an asked text has, by a rule on halves.
+unfoldable pub roundedRaw : Halves → Scaled → Scaled → Coefficients → Shape → ℕ → List ℕ → Answer ℤ
+roundedRaw up lower upper k t mask s =
     andThen (askedOf s) (λ d.
     andThen (orRefused 16 (withinLimits lower upper d) d) (λ d.
-    fittingRaw t mask (nearestRaw away k d)))
+    fittingRaw t mask (nearestRaw up k d)))
 
 -- "A rounded number that means no value at all counts as outside the limits."
 abbrev pub valueWithin : Scaled → Scaled → Value → Bool
@@ -61,5 +61,5 @@ abbrev pub limitedRaw : Scaled → Scaled → Coefficients → Answer ℤ → An
 limitedRaw lower upper k a = andThen a (λ z. orRefused 16 (meansWithin lower upper k z) z)
 
 -- "16 is given first for the asked value in its old place, and for the stored one after 17 and 18."
-unfoldable pub askedRaw : Scaled → Scaled → Coefficients → Shape → ℕ → List ℕ → Answer ℤ
-askedRaw lower upper k t mask s = limitedRaw lower upper k (roundedRaw lower upper k t mask s)
+unfoldable pub askedRaw : Halves → Scaled → Scaled → Coefficients → Shape → ℕ → List ℕ → Answer ℤ
+askedRaw up lower upper k t mask s = limitedRaw lower upper k (roundedRaw up lower upper k t mask s)

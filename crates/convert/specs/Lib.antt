@@ -5,6 +5,7 @@ pub mod Method
 pub mod Fraction
 pub mod Shown
 pub mod Round
+pub mod Edition
 pub mod Verbal
 pub mod Asked
 pub mod Told

@@ -14,6 +14,10 @@ Halves = ℕ → Bool
 abbrev pub away : Halves
 away q = true
 
+-- "halves to the even neighbour": of q and q + 1 the one that is even
+abbrev pub toEven : Halves
+toEven q = eqb (q % 2) 1
+
 -- The size n/d, rounded to the nearest whole number.
 unfoldable pub rounded : Halves → ℕ → ℕ → ℕ
 rounded up n d =

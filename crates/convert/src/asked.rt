@@ -5,7 +5,8 @@ ghost use lib.IntN.{natAbs};
 ghost use Rattle.number.specs.Told.{scaled};
 ghost use Rattle.cell.specs.Kind.{shapeOf};
 ghost use Rattle.convert.specs.Whole.{Small};
-ghost use Rattle.convert.specs.Round.{away, rawFor};
+ghost use Rattle.convert.specs.Round.{rawFor};
+ghost use Rattle.convert.specs.Edition.{halvesOf};
 ghost use Rattle.convert.specs.Asked.{fittingRaw, nearestRaw, roundedRaw};
 ghost use Rattle.convert.specs.Told.{toldRaw};
 use crate::limit::at_most;
@@ -35,27 +36,32 @@ pub enum RawAnswer {
     Refused { no: u8 },
 }
 
-// The raw number nearest to what p/q asks.
-fn raw_for(k: Coefficients, p: i64, q: i64) -> RawAnswer
+// The raw number nearest to what p/q asks, a half by the edition's rule.
+fn raw_for(edition: u64, k: Coefficients, p: i64, q: i64) -> RawAnswer
     requires { ⌜ Small k ⌝ }
     requires { ⌜ (natAbs p ≤ 1000000000) × (natAbs q ≤ 1000000) ⌝ }
-    ensures { λ r. ⌜ toldRaw r ≡ rawFor away k p q ⌝ }
+    ensures { λ r. ⌜ toldRaw r ≡ rawFor (halvesOf edition) k p q ⌝ }
 {
     let n = k.b * p + k.c * q;
     let d = k.e * p + k.f * q;
     if d == 0 {
         return RawAnswer::Refused { no: NO_RAW };
     }
-    RawAnswer::Raw(nearest_of(n, d))
+    RawAnswer::Raw(nearest_of(edition, n, d))
 }
 
 // The raw number nearest to what a decimal asks.
-fn nearest_raw(k: Coefficients, d: Decimal) -> RawAnswer
+fn nearest_raw(edition: u64, k: Coefficients, d: Decimal) -> RawAnswer
     requires { ⌜ (d .whole ≤ 1000000000) × (d .tens ≤ 6) ⌝ }
-    ensures { λ r. ⌜ toldRaw r ≡ nearestRaw away k (scaled d) ⌝ }
+    ensures { λ r. ⌜ toldRaw r ≡ nearestRaw (halvesOf edition) k (scaled d) ⌝ }
 {
     if all_small(k) {
-        return raw_for(k, with_sign(d.negative, d.whole), ten(d.tens) as i64);
+        return raw_for(
+            edition,
+            k,
+            with_sign(d.negative, d.whole),
+            ten(d.tens) as i64,
+        );
     }
     RawAnswer::Refused { no: NO_RAW }
 }
@@ -75,8 +81,9 @@ fn fitting(answer: RawAnswer, kind: u64, mask: u64) -> RawAnswer
     }
 }
 
-// The rounded number that an asked text has, judged by its form, the limits, the coefficients, and type and mask.
+// The rounded number that an asked text has by an edition, judged by its form, the limits, the coefficients, and type and mask.
 pub fn rounded_raw(
+    edition: u64,
     asked: &[u8],
     lower: Decimal,
     upper: Decimal,
@@ -84,7 +91,7 @@ pub fn rounded_raw(
     kind: u64,
     mask: u64,
 ) -> RawAnswer
-    ensures { λ r. ⌜ toldRaw r ≡ roundedRaw (scaled lower) (scaled upper) k (shapeOf kind) mask (now (asked .entry)) ⌝ }
+    ensures { λ r. ⌜ toldRaw r ≡ roundedRaw (halvesOf edition) (scaled lower) (scaled upper) k (shapeOf kind) mask (now (asked .entry)) ⌝ }
 {
     let answer = decimal_of(asked);
     let DecimalAnswer::Number(d) = answer else {
@@ -94,7 +101,7 @@ pub fn rounded_raw(
         return RawAnswer::Refused { no: NO_FORM };
     }
     if at_most(lower, d) & at_most(d, upper) {
-        return fitting(nearest_raw(k, d), kind, mask);
+        return fitting(nearest_raw(edition, k, d), kind, mask);
     }
     RawAnswer::Refused { no: OUTSIDE_LIMITS }
 }

@@ -15,10 +15,13 @@ use Rattle.text.proofs.Within.{by-test, and-left, and-right}
 use Rattle.records.specs.Cells.{room, encode}
 use Rattle.rows.specs.Sections as records
 use Rattle.grammar.specs.Move.{view}
+use Rattle.convert.specs.Edition.{isEdition}
+use Rattle.convert.proofs.EditionLaws.{one-or-two, is-one-or-two}
+use Rattle.tables.specs.declared.setting.Setting.{Setting}
 use Rattle.build.specs.Build.{built}
 use Rattle.tables.specs.Form.{tableSections}
 use Rattle.tables.specs.Sizes.{sizesFit}
-use Rattle.load.specs.Load.{described, Loaded, left, loaded}
+use Rattle.load.specs.Load.{described, Loaded, left, untouched, loaded}
 use Rattle.load.proofs.LoadLaws.{work-room}
 use Rattle.tree.specs.Tree.{Records}
 use Rattle.tree.proofs.Accepted as text
@@ -33,22 +36,25 @@ pub table-room : room tableSections ≡ 36617
 unfolding tableSections
 table-room = refl
 
-module _ (x image : List ℕ) (base : ℕ) (tables work : List ℕ) where
+module _ (x image : List ℕ) (setting : Setting) (tables work : List ℕ) where
   abbrev enough : Bool
-  enough = sizesFit (length x) (length image) base (length tables) && leb (room records.sections) (length work)
+  enough = sizesFit (length x) (length image) (setting .base) (length tables) && leb (room records.sections) (length work)
 
-  pub fits-enough : Fits x image base tables work → enough ≡ true
+  pub fits-enough : Fits x image setting tables work → enough ≡ true
   unfolding sizesFit
   fits-enough f =
-      and (and (and (and (le-leb (length x) (2 ^ 24) (f .text-fits)) (le-leb (length image) (2 ^ 20) (f .image-fits))) (le-leb (base + length image) (2 ^ 32) (f .ends-below)))
+      and (and (and (and (le-leb (length x) (2 ^ 24) (f .text-fits)) (le-leb (length image) (2 ^ 20) (f .image-fits))) (le-leb (setting .base + length image) (2 ^ 32) (f .ends-below)))
       (rw table-room (le-leb 36617 (length tables) (f .tables-fit)))) (rw work-room (le-leb 42578 (length work) (f .work-fits)))
 
-  pub enough-fits : enough ≡ true → Fits x image base tables work
+  pub fits-edition : Fits x image setting tables work → isEdition (setting .edition) ≡ true
+  fits-edition f = is-one-or-two (setting .edition) (f .an-edition)
+
+  pub enough-fits : enough ≡ true → isEdition (setting .edition) ≡ true → Fits x image setting tables work
   unfolding sizesFit
-  enough-fits h =
+  enough-fits h v =
       let a = leb (length x) (2 ^ 24) in
       let b = leb (length image) (2 ^ 20) in
-      let c = leb (base + length image) (2 ^ 32) in
+      let c = leb (setting .base + length image) (2 ^ 32) in
       let d = leb (room tableSections) (length tables) in
       let e = leb (room records.sections) (length work) in
       let four : (a && b && c && d) ≡ true = and-left (a && b && c && d) e h in
@@ -57,42 +63,48 @@ module _ (x image : List ℕ) (base : ℕ) (tables work : List ℕ) where
       record {
         text-fits = leb-true (length x) (2 ^ 24) (and-left a b two);
         image-fits = leb-true (length image) (2 ^ 20) (and-right a b two);
-        ends-below = leb-true (base + length image) (2 ^ 32) (and-right (a && b) c three);
+        ends-below = leb-true (setting .base + length image) (2 ^ 32) (and-right (a && b) c three);
         tables-fit = rw table-room at (leb-true (room tableSections) (length tables) (and-right (a && b && c) d four));
         work-fits = rw work-room at (leb-true (room records.sections) (length work) (and-right (a && b && c && d) e h));
+        an-edition = one-or-two (setting .edition) v;
       }
 
   -- the cells of the tables that are made of the records
   abbrev pub tablesFor : Records → List ℕ
-  tablesFor d = encode tableSections (length tables) (built image base x (view d) (allElements image base x d))
+  tablesFor d = encode tableSections (length tables) (built image setting x (view d) (allElements image (setting .base) x d))
 
   -- what the stages give
-  pub loaded-given : Fits x image base tables work → (D : Records) → described image base x ≡ given D
-      → loaded x image base tables work ≡ record { answer = given tt; tables = encode tableSections (length tables) D; work = replicate (length work) 0 }
+  pub loaded-given : Fits x image setting tables work → (D : Records) → described image setting x ≡ given D
+      → loaded x image setting tables work ≡ record { answer = given tt; tables = encode tableSections (length tables) D; work = replicate (length work) 0 }
   unfolding loaded
-  loaded-given f D h = rw (fits-enough f, h)
+  loaded-given f D h = rw (fits-enough f, fits-edition f, h)
 
   -- the tables of an accepted load are those that its tree and the image make, and the lent work is zero
-  pub accepted-leaves : Fits x image base tables work → (k : Keeps x image base)
-      → loaded x image base tables work ≡ record { answer = given tt; tables = tablesFor (k .records); work = replicate (length work) 0 }
+  pub accepted-leaves : Fits x image setting tables work → (k : Keeps x image (setting .base))
+      → loaded x image setting tables work ≡ record { answer = given tt; tables = tablesFor (k .records); work = replicate (length work) 0 }
   unfolding loaded
   accepted-leaves f k =
-      let t : Taken image base x (built image base x (view (k .records)) (allElements image base x (k .records))) =
-      record { records = k .records; is-read = text.accepted-exactly x (k .records) .1 (k .tree); accepted = keeps-accepted x image base k; is-built = refl } in
-      rw (fits-enough f, accepted-given image base x (built image base x (view (k .records)) (allElements image base x (k .records))) t)
+      let t : Taken image setting x (built image setting x (view (k .records)) (allElements image (setting .base) x (k .records))) =
+      record { records = k .records; is-read = text.accepted-exactly x (k .records) .1 (k .tree); accepted = keeps-accepted x image (setting .base) k; is-built = refl } in
+      rw (fits-enough f, fits-edition f, accepted-given image setting x (built image setting x (view (k .records)) (allElements image (setting .base) x (k .records))) t)
 
-  load-keeps : loaded x image base tables work .answer ≡ given tt → Fits x image base tables work × Keeps x image base
+  load-keeps : loaded x image setting tables work .answer ≡ given tt → Fits x image setting tables work × Keeps x image (setting .base)
   unfolding loaded
   load-keeps =
-      by-test (λ (r : Loaded). r .answer ≡ given tt → Fits x image base tables work × Keeps x image base) enough
-      (λ e. taken e (described image base x) refl) (λ e h. let z : _≡_ {A = ℕ} 0 1 = cc in absurd (omega arith))
+      by-test Kept enough (λ e. by-test Kept (isEdition (setting .edition)) (λ v. taken e v (described image setting x) refl) (λ v. none 33)) (λ e. none 20)
     where
-      taken : enough ≡ true → (a : Answer Records) → described image base x ≡ a → left (length tables) (length work) a .answer ≡ given tt → Fits x image base tables work × Keeps x image base
-      taken e (given D) h g =
-          let t : Taken image base x D = accepted-is image base x D h in
-          (enough-fits e, accepted-keeps x image base (t .records) (text.accepted-exactly x (t .records) .0 (t .is-read)) (t .accepted))
-      taken e (refused n p) h g = let z : _≡_ {A = ℕ} 0 1 = cc in absurd (omega arith)
+      Kept : Loaded → Type 0
+      Kept r = r .answer ≡ given tt → Fits x image setting tables work × Keeps x image (setting .base)
+
+      none : (k : ℕ) → Kept (untouched k tables work)
+      none k h = let z : _≡_ {A = ℕ} 0 1 = cc in absurd (omega arith)
+
+      taken : enough ≡ true → isEdition (setting .edition) ≡ true → (a : Answer Records) → described image setting x ≡ a → left (length tables) (length work) a .answer ≡ given tt → Fits x image setting tables work × Keeps x image (setting .base)
+      taken e v (given D) h g =
+          let t : Taken image setting x D = accepted-is image setting x D h in
+          (enough-fits e v, accepted-keeps x image (setting .base) (t .records) (text.accepted-exactly x (t .records) .0 (t .is-read)) (t .accepted))
+      taken e v (refused n p) h g = let z : _≡_ {A = ℕ} 0 1 = cc in absurd (omega arith)
 
   -- "A description with its image is accepted exactly if it keeps the written rules"
-  pub accepted-exactly : (loaded x image base tables work .answer ≡ given tt) ↔ (Fits x image base tables work × Keeps x image base)
+  pub accepted-exactly : (loaded x image setting tables work .answer ≡ given tt) ↔ (Fits x image setting tables work × Keeps x image (setting .base))
   accepted-exactly = (load-keeps, λ p. ap (λ (r : Loaded). r .answer) (accepted-leaves (p .0) (p .1)))

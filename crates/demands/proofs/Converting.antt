@@ -24,6 +24,7 @@ use Rattle.rows.specs.Sections as records
 use Rattle.rows.specs.Slots.{conversion-type}
 use Rattle.grammar.specs.Move.{View, view}
 use Rattle.methods.specs.Methods as methods
+use Rattle.tables.specs.declared.setting.Setting.{Setting}
 use Rattle.build.specs.Build.{flag, isBelow, coefficientsIn, conversionOf, fractionRow, methodRow, built}
 use Rattle.build.proofs.BuiltLaws.{Within, slot-method}
 use Rattle.tables.specs.Form.{methodSection, conversionCell, bCell, cCell, eCell, fCell, Tables, tablesOf, tablesIn, methodOf, coefficient, coefficients}
@@ -56,13 +57,13 @@ not-verbal v j =
 abbrev pub HasMethod : Tables → ℕ → Coefficients → Type 0
 HasMethod T m c = (isVerbal (T .slots methodSection m conversionCell) ≡ false) × (coefficients T m ≡ c)
 
-module _ (image : List ℕ) (base : ℕ) (x : List ℕ) (d : List (List (List ℕ))) (n : ℕ) (w : Within (view d)) (m : ℕ) (below : m < count d records.method) where
+module _ (image : List ℕ) (setting : Setting) (x : List ℕ) (d : List (List (List ℕ))) (n : ℕ) (w : Within (view d)) (m : ℕ) (below : m < count d records.method) where
   abbrev T : Tables
-  T = tablesOf (built image base x (view d) n)
+  T = tablesOf (built image setting x (view d) n)
 
   method-row : (slot d records.method m conversion-type ≡ TAB-VERB → ⊥) → (k : ℕ) → T .slots methodSection m k ≡ getD (fractionRow (view d) m) k 0
   unfolding methodRow
-  method-row z k = rw (ne-eqb (slot d records.method m conversion-type) TAB-VERB z) at (slot-method image base x (view d) n w m k below)
+  method-row z k = rw (ne-eqb (slot d records.method m conversion-type) TAB-VERB z) at (slot-method image setting x (view d) n w m k below)
 
   built-method : (slot d records.method m conversion-type ≡ TAB-VERB → ⊥) → (c : Coefficients) → methods.coefficients (view d) m ≡ given c → HasMethod T m c
   built-method z c e = (rw (method-row z 0) (not-verbal (view d) m), λ p. record { b = first p; c = second p; e = third p; f = fourth p })
@@ -106,13 +107,13 @@ module _ (T : Tables) (g : ℕ) where
   unfolding asksBy
   asks-none u = rw u
 
-module _ (x image : List ℕ) (base : ℕ) (lent work : List ℕ) (f : Fits x image base lent work) (k : Keeps x image base) where
+module _ (x image : List ℕ) (setting : Setting) (lent work : List ℕ) (f : Fits x image setting lent work) (k : Keeps x image (setting .base)) where
   abbrev d : Records
   d = k .records
 
   abbrev t : List ℕ
-  t = loaded x image base lent work .tables
+  t = loaded x image setting lent work .tables
 
   pub method-held : (m : ℕ) → m < count d records.method → (slot d records.method m conversion-type ≡ TAB-VERB → ⊥) → (c : Coefficients) → methods.coefficients (view d) m ≡ given c → HasMethod (tablesIn t) m c
   method-held m l z c e =
-      subst (λ (T : Tables). HasMethod T m c) (sym (same x image base lent work f k)) (built-method image base x d (allElements image base x d) (within x image base lent work f k) m l z c e)
+      subst (λ (T : Tables). HasMethod T m c) (sym (same x image setting lent work f k)) (built-method image setting x d (allElements image (setting .base) x d) (within x image setting lent work f k) m l z c e)

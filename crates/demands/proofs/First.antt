@@ -1,6 +1,6 @@
 -- THE FIRST DEMAND, to be read beside document 01: "Whatever description, memory image, request or lent table comes in, each call ends with an answer or one
 -- numbered refusal, for exactly the listed reason. A refused write changes nothing; a refused load names the place in the text and leaves its tables at zero (where a
--- size or the base address is wrong: place 0, untouched)."
+-- size, the edition or the base address is wrong: place 0, untouched)."
 -- The calls are load, search, read, make_list, write_raw, write_physical, listing and line; their contracts say that they answer and leave what `loaded`,
 -- `searched`, `reading`, `making`, `writing`, `listing` and `printing` say, and ask nothing.
 --     one-load .. one-line                          one answer and one content of lent memory; of the C functions: Ones, `c-load-one` and those after it
@@ -16,6 +16,7 @@ use mathlib.Core.Logic.{_⊎_}
 use lib.ListN.{length, replicate}
 use Rattle.text.specs.Answer.{refused}
 use Rattle.number.specs.Answer as number
+use Rattle.tables.specs.declared.setting.Setting.{Setting}
 use Rattle.tables.specs.Form.{objectSection, tablesIn}
 use Rattle.load.specs.Load.{loaded, loadedOf}
 use Rattle.load.specs.declared.LoadAnswer.{LoadAnswer}
@@ -39,8 +40,8 @@ use Rattle.refusals.proofs.Refusing as refusing
 use Rattle.demands.proofs.Telling as telling
 
 -- "Each public call's promise leaves one result and one content of lent memory per input, refusals too": two outcomes of one call are the same
-pub one-load : (x image : List ℕ) (base : ℕ) (tables work : List ℕ) (r s : LoadAnswer) (t u w v : List ℕ)
-    → loadedOf r t w ≡ loaded x image base tables work → loadedOf s u v ≡ loaded x image base tables work → (r ≡ s) × (t ≡ u) × (w ≡ v)
+pub one-load : (x image : List ℕ) (setting : Setting) (tables work : List ℕ) (r s : LoadAnswer) (t u w v : List ℕ)
+    → loadedOf r t w ≡ loaded x image setting tables work → loadedOf s u v ≡ loaded x image setting tables work → (r ≡ s) × (t ≡ u) × (w ≡ v)
 one-load = ones.load-one
 
 pub one-search : (x t n : List ℕ) (l : Lent) (r s : SearchAnswer) → toldSearch r ≡ searched x t l n → toldSearch s ≡ searched x t l n → r ≡ s
@@ -63,20 +64,20 @@ pub one-line : (x t : List ℕ) (base : ℕ) (k : Kept) (object part index : ℕ
     → listedOf r o ≡ printing x t base k object part index out → listedOf s u ≡ printing x t base k object part index out → (r ≡ s) × (o ≡ u)
 one-line = ones.line-one
 
-module _ (x image : List ℕ) (base : ℕ) (tables work : List ℕ) where
-  -- "Numbers we answer with": a load's refusal is 20 at place 0, or 1 to 13 at a place in the text or at its end
-  pub listed : (n p : ℕ) → loaded x image base tables work .answer ≡ refused n p → Refusal x n p
-  listed = refusing.refusal-listed x image base tables work
+module _ (x image : List ℕ) (setting : Setting) (tables work : List ℕ) where
+  -- "Numbers we answer with": a load's refusal is 20 or 33 at place 0, or 1 to 13 at a place in the text or at its end
+  pub listed : (n p : ℕ) → loaded x image setting tables work .answer ≡ refused n p → Refusal x n p
+  listed = refusing.refusal-listed x image setting tables work
 
-  -- "20 leaves tables untouched, other load refusals leave them zero."
-  pub leaves : (n p : ℕ) → loaded x image base tables work .answer ≡ refused n p
-      → ((n ≡ 20) × (loaded x image base tables work .tables ≡ tables) × (loaded x image base tables work .work ≡ work))
-      ⊎ ((n ≤ 13) × (loaded x image base tables work .tables ≡ replicate (length tables) 0) × (loaded x image base tables work .work ≡ replicate (length work) 0))
-  leaves = refusing.refusal-leaves x image base tables work
+  -- "20 leaves tables untouched, other load refusals leave them zero."; "33 for another edition, .. with place 0 and tables untouched"
+  pub leaves : (n p : ℕ) → loaded x image setting tables work .answer ≡ refused n p
+      → (((n ≡ 20) ⊎ (n ≡ 33)) × (loaded x image setting tables work .tables ≡ tables) × (loaded x image setting tables work .work ≡ work))
+      ⊎ ((n ≤ 13) × (loaded x image setting tables work .tables ≡ replicate (length tables) 0) × (loaded x image setting tables work .work ≡ replicate (length work) 0))
+  leaves = refusing.refusal-leaves x image setting tables work
 
   -- the number that a C caller gets tells the answer
-  pub told-to-c : loadBack (loadNumber (loaded x image base tables work .answer)) ≡ loaded x image base tables work .answer
-  told-to-c = telling.load-number-tells x image base tables work
+  pub told-to-c : loadBack (loadNumber (loaded x image setting tables work .answer)) ≡ loaded x image setting tables work .answer
+  told-to-c = telling.load-number-tells x image setting tables work
 
 -- "Reading an element: 20, 22, 14. Write order: 20, 22, 14, 21, 19, 15, 16, 17, 18. Making a list: 20, 22.": by these numbers alone (look, Numbers: `RefusedBy`)
 pub search-refused : (x t : List ℕ) (l : Lent) (w : List ℕ) → RefusedBy (20 ∷ 22 ∷ []) (searched x t l w)

@@ -12,6 +12,7 @@ use lib.ListN.{length, getD}
 use Rattle.text.specs.Answer as text
 use Rattle.number.specs.Answer.{given, refused}
 use Rattle.number.specs.Below.{sumBelow}
+use Rattle.tables.specs.declared.setting.Setting.{Setting}
 use Rattle.tables.specs.Form.{objectSection, tablesIn, total}
 use Rattle.tables.specs.Group.{groupOf, elements}
 use Rattle.tables.specs.Group as tables
@@ -64,53 +65,53 @@ reading-of t image l o p i r =
     go true true false h = absurd (never 14 r h)
     go true true true h = (refl, same-given y r h)
 
-module _ (x image : List ℕ) (base : ℕ) (lent work : List ℕ) where
+module _ (x image : List ℕ) (setting : Setting) (lent work : List ℕ) where
   -- the tables that a load leaves
   abbrev pub loadedTables : List ℕ
-  loadedTables = loaded x image base lent work .tables
+  loadedTables = loaded x image setting lent work .tables
 
-  module _ (ok : loaded x image base lent work .answer ≡ text.given tt) where
-    fits : Fits x image base lent work
-    fits = accepted-exactly x image base lent work .0 ok .0
+  module _ (ok : loaded x image setting lent work .answer ≡ text.given tt) where
+    fits : Fits x image setting lent work
+    fits = accepted-exactly x image setting lent work .0 ok .0
 
-    rules : Keeps x image base
-    rules = accepted-exactly x image base lent work .0 ok .1
+    rules : Keeps x image (setting .base)
+    rules = accepted-exactly x image setting lent work .0 ok .1
 
     -- a list for these tables has a line for each element of all objects
-    pub all-elements : (k : Keeps x image base) → total (tablesIn loadedTables) ≡ allElements image base x (k .records)
-    all-elements k = total-of x image base lent work fits k
+    pub all-elements : (k : Keeps x image (setting .base)) → total (tablesIn loadedTables) ≡ allElements image (setting .base) x (k .records)
+    all-elements k = total-of x image setting lent work fits k
 
     -- four lent columns
     module _ (raw : List ℤ) (state : List ℕ) (first second : List ℤ) where
       abbrev pub lentList : Kept
       lentList = kept image raw state first second
 
-      making-accepted : total (tablesIn loadedTables) ≤ room lentList → making loadedTables (length x) base lentList .answer ≡ given tt
+      making-accepted : total (tablesIn loadedTables) ≤ room lentList → making loadedTables (length x) (setting .base) lentList .answer ≡ given tt
       unfolding making checked
       making-accepted h =
-          rw (sizes x image base lent work fits rules, le-leb (total (tablesIn loadedTables)) (room lentList) h, keeps-rule x image base lent work fits rules)
+          rw (sizes x image setting lent work fits rules, le-leb (total (tablesIn loadedTables)) (room lentList) h, keeps-rule x image setting lent work fits rules)
 
       -- the line of an element, after any requests
-      line-reads : making loadedTables (length x) base lentList .answer ≡ given tt → (qs : List Request) (o p i : ℕ) (r : Reading)
-          → reading loadedTables (afterAll loadedTables (length x) base lentList qs .image) (lentBy (length x) base (afterAll loadedTables (length x) base lentList qs)) o p i ≡ given r
-          → lineAt (afterAll loadedTables (length x) base lentList qs) (tables.lineOf (tablesIn loadedTables) (groupOf o p) i) ≡ lineWith (r .raw) (r .value)
+      line-reads : making loadedTables (length x) (setting .base) lentList .answer ≡ given tt → (qs : List Request) (o p i : ℕ) (r : Reading)
+          → reading loadedTables (afterAll loadedTables (length x) (setting .base) lentList qs .image) (lentBy (length x) (setting .base) (afterAll loadedTables (length x) (setting .base) lentList qs)) o p i ≡ given r
+          → lineAt (afterAll loadedTables (length x) (setting .base) lentList qs) (tables.lineOf (tablesIn loadedTables) (groupOf o p) i) ≡ lineWith (r .raw) (r .value)
       unfolding lineOf
       line-reads m qs o p i r h =
-          let c = afterAll loadedTables (length x) base lentList qs in
-          let e = reading-of loadedTables (c .image) (lentBy (length x) base c) o p i r h in
+          let c = afterAll loadedTables (length x) (setting .base) lentList qs in
+          let e = reading-of loadedTables (c .image) (lentBy (length x) (setting .base) c) o p i r h in
           let q = named loadedTables o p i (e .0) in
-          let u : c ≡ remade loadedTables (withImage (c .image) lentList) = runs.kept-is-made loadedTables (length x) base lentList qs m in
-          let b : groupOf o p < groups loadedTables = (let w : groups loadedTables ≡ tablesIn loadedTables .counts objectSection * 3 = groups-of x image base lent work fits rules in omega (arith, q .object-below, q .part-below)) in
+          let u : c ≡ remade loadedTables (withImage (c .image) lentList) = runs.kept-is-made loadedTables (length x) (setting .base) lentList qs m in
+          let b : groupOf o p < groups loadedTables = (let w : groups loadedTables ≡ tablesIn loadedTables .counts objectSection * 3 = groups-of x image setting lent work fits rules in omega (arith, q .object-below, q .part-below)) in
           ap (λ (y : Kept). lineAt y (tables.lineOf (tablesIn loadedTables) (groupOf o p) i)) u
           ∙ line-made loadedTables (withImage (c .image) lentList) (groupOf o p) i b (q .index-below)
           ∙ ap (λ (y : Reading). lineWith (y .raw) (y .value)) (e .1)
 
       -- with a line in each column for each element, from an accepted load on
-      pub kept-anew : total (tablesIn loadedTables) ≤ room lentList → Anew loadedTables (length x) base lentList
+      pub kept-anew : total (tablesIn loadedTables) ≤ room lentList → Anew loadedTables (length x) (setting .base) lentList
       kept-anew h =
           record {
             makes = making-accepted h;
-            anew = λ qs. runs.kept-equals-made-anew loadedTables (length x) base lentList qs (making-accepted h);
-            again = λ qs. runs.made-anew-in-place loadedTables (length x) base lentList qs (making-accepted h);
+            anew = λ qs. runs.kept-equals-made-anew loadedTables (length x) (setting .base) lentList qs (making-accepted h);
+            again = λ qs. runs.made-anew-in-place loadedTables (length x) (setting .base) lentList qs (making-accepted h);
             reads = line-reads (making-accepted h);
           }

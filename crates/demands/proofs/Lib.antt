@@ -25,6 +25,7 @@ pub mod Keeping
 pub mod Frames
 pub mod Meaning
 pub mod Limiting
+pub mod Editions
 pub mod Verbal
 pub mod Readings
 pub mod Writings

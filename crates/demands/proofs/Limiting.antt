@@ -1,27 +1,25 @@
 -- THE SECOND DEMAND, "or is refused", with document 02's addition: a physical write that is 16 asks for a value outside the limits, or what it would store is.
-use Prim.Native.Nat.{ℕ, zero, suc, _+_, _^_}
+use Prim.Native.Nat.{ℕ, zero, suc, _+_}
 use mathlib.Core.Path.{_≡_, refl, sym, ap, ap₂, _∙_}
 use mathlib.Core.List.{List, [], _∷_}
 use mathlib.Core.Bool.{Bool, true, false, cond, not, _&&_}
 use mathlib.Core.Logic.{inl, inr}
 use native.Mathlib.Omega.{arith}
-use lib.Dec.{leb}
-use lib.IntN.{ℤ, pos, negsuc, _+ℤ_, _*ℤ_}
+use lib.IntN.{ℤ}
 use Rattle.number.specs.Answer.{Answer, given, refused}
 use Rattle.number.specs.Decimal.{Scaled, decimalOf}
-use Rattle.number.specs.Signed.{signedOf}
 use Rattle.cell.specs.Kind.{shapeOf}
 use Rattle.cell.specs.Raw.{fitsRaw}
 use Rattle.cell.specs.declared.kind.Shape.{Shape}
 use Rattle.cell.proofs.Types.{clash}
 use Rattle.convert.specs.declared.method.Coefficients.{Coefficients}
-use Rattle.convert.specs.Whole.{allSmall}
 use Rattle.convert.specs.Limit.{withinLimits}
 use Rattle.convert.specs.Fraction.{Value, none, number, text, fractionOf}
-use Rattle.convert.specs.Round.{away, roundedQuotient, rawFor}
-use Rattle.convert.specs.Asked.{andThen, orRefused, asDecimal, askedOf, nearestRaw, fittingRaw, roundedRaw, valueWithin, meansWithin, askedRaw}
+use Rattle.convert.specs.Edition.{halvesOf}
+use Rattle.convert.specs.Asked.{andThen, orRefused, askedOf, nearestRaw, fittingRaw, roundedRaw, valueWithin, meansWithin, askedRaw}
 use Rattle.convert.specs.Told.{held}
-use Rattle.tables.specs.Form.{lowerCell, upperCell, Tables, tablesIn, kind, mask, forbidden, limit}
+use Rattle.convert.proofs.Laws.{Numbered, numbered-or, numbered-then, numbered-form, numbered-near}
+use Rattle.tables.specs.Form.{lowerCell, upperCell, Tables, tablesIn, edition, kind, mask, forbidden, limit}
 use Rattle.tables.specs.Group.{groupOf, bytes, placeOf}
 use Rattle.look.specs.Calls.{Lent, lentBy, isElement, Kept, hasRoom, physicalText, request, onCount, asksBy, isTabVerb, wantedRaw, writable, judgedElement, judgedRequest, afterwards, writing, writtenTo}
 use Rattle.look.specs.Steps.{elementNo}
@@ -30,67 +28,48 @@ use Rattle.wanted.proofs.StandLaws.{standing-refused, standing-passed}
 use Rattle.list.proofs.Writes.{never, same-refused}
 use Rattle.demands.specs.Nearest.{InLimits, OutsideLimits, is-asked, is-stored}
 
--- the numbers that the other tests refuse by
-module _ {A : Type 0} (a : A) where
-  or-another : (k n : ℕ) (b : Bool) → orRefused k b a ≡ refused n → k ≡ n
-  or-another k n true h = absurd (never n a (sym h))
-  or-another k n false h = same-refused k n h
-
-decimal-15 : (n : ℕ) (a : Answer Scaled) → asDecimal a ≡ refused n → n ≡ 15
-decimal-15 n (given d) h = sym (or-another d 15 n (leb (d .whole) 1000000000) h)
-decimal-15 n (refused k) h = sym (same-refused 15 n h)
-
-quotient-17 : (n : ℕ) (p q : ℤ) → roundedQuotient away p q ≡ refused n → n ≡ 17
-quotient-17 n p (pos zero) h = sym (same-refused 17 n h)
-quotient-17 n p (pos (suc d)) h = absurd (never n _ (sym h))
-quotient-17 n p (negsuc d) h = absurd (never n _ (sym h))
-
-nearest-17 : (n : ℕ) (k : Coefficients) (d : Scaled) → nearestRaw away k d ≡ refused n → n ≡ 17
-unfolding nearestRaw rawFor
-nearest-17 n k d = go (allSmall k) (signedOf (d .negative) (d .whole)) (pos (10 ^ d .tens))
-  where
-    go : (b : Bool) (p q : ℤ) → cond b (roundedQuotient away (k .b *ℤ p +ℤ k .c *ℤ q) (k .e *ℤ p +ℤ k .f *ℤ q)) (refused 17) ≡ refused n → n ≡ 17
-    go true p q h = quotient-17 n (k .b *ℤ p +ℤ k .c *ℤ q) (k .e *ℤ p +ℤ k .f *ℤ q) h
-    go false p q h = sym (same-refused 17 n h)
-
 -- a value within the limits, as a line holds it
 held-within : (lower upper : Scaled) (v : Value) → InLimits lower upper (held v) → valueWithin lower upper v ≡ true
 held-within lower upper none h = let z = h .is-number in absurd (omega arith)
 held-within lower upper (number n d) h = ap₂ _&&_ (h .from-lower) (h .to-upper)
 held-within lower upper (text a b) h = let z = h .is-number in absurd (omega arith)
 
-module _ (lower upper : Scaled) (k : Coefficients) (t : Shape) (m : ℕ) (s : List ℕ) where
+module _ (edition : ℕ) (lower upper : Scaled) (k : Coefficients) (t : Shape) (m : ℕ) (s : List ℕ) where
   -- neither form, nor raw number, nor type and mask are 16
-  fitting-16 : (a : Answer ℤ) → ((n : ℕ) → a ≡ refused n → n ≡ 17) → fittingRaw t m a ≡ refused 16 → ⊥
-  fitting-16 (given z) f h = let e = or-another z 18 16 (fitsRaw t m z) h in omega arith
-  fitting-16 (refused n) f h = let e = f n refl in let g = same-refused n 16 h in omega arith
+  abbrev Other : ℕ → Type 0
+  Other n = n ≡ 16 → ⊥
 
-  asked-16 : (a : Answer Scaled) → askedOf s ≡ a → ((n : ℕ) → a ≡ refused n → n ≡ 15)
-      → andThen a (λ d. andThen (orRefused 16 (withinLimits lower upper d) d) (λ d. fittingRaw t m (nearestRaw away k d))) ≡ refused 16 → OutsideLimits lower upper k t m s
-  asked-16 (refused n) e f h = let x = f n refl in let g = same-refused n 16 h in absurd (omega arith)
+  fitting-16 : (d : Scaled) → fittingRaw t m (nearestRaw (halvesOf edition) k d) ≡ refused 16 → ⊥
+  fitting-16 d h =
+      numbered-then Other (nearestRaw (halvesOf edition) k d) (λ z. orRefused 18 (fitsRaw t m z) z) (numbered-near Other (λ e. omega arith) (halvesOf edition) k d)
+      (λ z. numbered-or Other 18 (fitsRaw t m z) z (λ e. omega arith)) 16 h refl
+
+  asked-16 : (a : Answer Scaled) → askedOf s ≡ a → Numbered Other a
+      → andThen a (λ d. andThen (orRefused 16 (withinLimits lower upper d) d) (λ d. fittingRaw t m (nearestRaw (halvesOf edition) k d))) ≡ refused 16 → OutsideLimits edition lower upper k t m s
+  asked-16 (refused n) e f h = absurd (f n refl (same-refused n 16 h))
   asked-16 (given d) e f h = go (withinLimits lower upper d) refl h
     where
-      go : (b : Bool) → withinLimits lower upper d ≡ b → andThen (orRefused 16 b d) (λ d. fittingRaw t m (nearestRaw away k d)) ≡ refused 16 → OutsideLimits lower upper k t m s
-      go true w g = absurd (fitting-16 (nearestRaw away k d) (λ n q. nearest-17 n k d q) g)
+      go : (b : Bool) → withinLimits lower upper d ≡ b → andThen (orRefused 16 b d) (λ d. fittingRaw t m (nearestRaw (halvesOf edition) k d)) ≡ refused 16 → OutsideLimits edition lower upper k t m s
+      go true w g = absurd (fitting-16 d g)
       go false w g = is-asked d e w
 
-  rounded-16 : roundedRaw lower upper k t m s ≡ refused 16 → OutsideLimits lower upper k t m s
+  rounded-16 : roundedRaw (halvesOf edition) lower upper k t m s ≡ refused 16 → OutsideLimits edition lower upper k t m s
   unfolding roundedRaw askedOf
-  rounded-16 h = asked-16 (askedOf s) refl (λ n q. decimal-15 n (decimalOf s) q) h
+  rounded-16 h = asked-16 (askedOf s) refl (numbered-form Other (λ e. omega arith) (decimalOf s)) h
 
-  stored-16 : (z : ℤ) → roundedRaw lower upper k t m s ≡ given z → orRefused 16 (meansWithin lower upper k z) z ≡ refused 16 → OutsideLimits lower upper k t m s
+  stored-16 : (z : ℤ) → roundedRaw (halvesOf edition) lower upper k t m s ≡ given z → orRefused 16 (meansWithin lower upper k z) z ≡ refused 16 → OutsideLimits edition lower upper k t m s
   unfolding meansWithin
   stored-16 z e = go (meansWithin lower upper k z) refl
     where
-      go : (b : Bool) → valueWithin lower upper (fractionOf k z) ≡ b → orRefused 16 b z ≡ refused 16 → OutsideLimits lower upper k t m s
+      go : (b : Bool) → valueWithin lower upper (fractionOf k z) ≡ b → orRefused 16 b z ≡ refused 16 → OutsideLimits edition lower upper k t m s
       go true w h = absurd (never 16 z (sym h))
       go false w h = is-stored z e (λ i. clash (sym (held-within lower upper (fractionOf k z) i) ∙ w))
 
-  pub limits-16 : askedRaw lower upper k t m s ≡ refused 16 → OutsideLimits lower upper k t m s
+  pub limits-16 : askedRaw (halvesOf edition) lower upper k t m s ≡ refused 16 → OutsideLimits edition lower upper k t m s
   unfolding askedRaw
-  limits-16 h = go (roundedRaw lower upper k t m s) refl h
+  limits-16 h = go (roundedRaw (halvesOf edition) lower upper k t m s) refl h
     where
-      go : (a : Answer ℤ) → roundedRaw lower upper k t m s ≡ a → andThen a (λ z. orRefused 16 (meansWithin lower upper k z) z) ≡ refused 16 → OutsideLimits lower upper k t m s
+      go : (a : Answer ℤ) → roundedRaw (halvesOf edition) lower upper k t m s ≡ a → andThen a (λ z. orRefused 16 (meansWithin lower upper k z) z) ≡ refused 16 → OutsideLimits edition lower upper k t m s
       go (given z) e g = stored-16 z e g
       go (refused n) e g = rounded-16 (e ∙ g)
 
@@ -98,14 +77,14 @@ module _ (lower upper : Scaled) (k : Coefficients) (t : Shape) (m : ℕ) (s : Li
 
 -- what an element of group g is asked by
 abbrev pub OutsideIn : Tables → ℕ → List ℕ → Type 0
-OutsideIn T g = OutsideLimits (limit T g lowerCell) (limit T g upperCell) (asksBy T g) (shapeOf (kind T g)) (mask T g)
+OutsideIn T g = OutsideLimits (edition T) (limit T g lowerCell) (limit T g upperCell) (asksBy T g) (shapeOf (kind T g)) (mask T g)
 
 wanted-16 : (T : Tables) (g : ℕ) (s : List ℕ) → wantedRaw T g (physicalText s) ≡ refused 16 → OutsideIn T g s
 wanted-16 T g s = go (isTabVerb T g)
   where
-    go : (b : Bool) → cond (not b) (askedRaw (limit T g lowerCell) (limit T g upperCell) (asksBy T g) (shapeOf (kind T g)) (mask T g) s) (refused 15) ≡ refused 16 → OutsideIn T g s
+    go : (b : Bool) → cond (not b) (askedRaw (halvesOf (edition T)) (limit T g lowerCell) (limit T g upperCell) (asksBy T g) (shapeOf (kind T g)) (mask T g) s) (refused 15) ≡ refused 16 → OutsideIn T g s
     go true h = let e = same-refused 15 16 h in absurd (omega arith)
-    go false h = limits-16 (limit T g lowerCell) (limit T g upperCell) (asksBy T g) (shapeOf (kind T g)) (mask T g) s h
+    go false h = limits-16 (edition T) (limit T g lowerCell) (limit T g upperCell) (asksBy T g) (shapeOf (kind T g)) (mask T g) s h
 
 -- "20, 22, 14, 21, 19": what is judged of an element is not 16
 element-numbers : (t : List ℕ) (l : Lent) (enough : Bool) (o p i : ℕ) → RefusedBy (20 ∷ 22 ∷ 14 ∷ 21 ∷ 19 ∷ []) (judgedElement t l enough o p i (given (tt {0})))

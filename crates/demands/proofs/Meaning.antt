@@ -1,7 +1,7 @@
 -- THE SECOND DEMAND: "its physical value is the exact fraction or text, or none", and "a physical write stores the whole number nearest to what the
--- conversion asks, halves away from zero, or is refused".
-use Prim.Native.Nat.{ℕ, zero, suc, _-_, _*_, _^_, _<_}
-use mathlib.Core.Path.{_≡_, refl, sym, _∙_, subst}
+-- conversion asks, by the edition's rule on halves, or is refused".
+use Prim.Native.Nat.{ℕ, zero, suc, _-_, _*_, _%_, _^_, _<_}
+use mathlib.Core.Path.{_≡_, refl, sym, ap, _∙_, subst}
 use mathlib.Core.List.{List}
 use mathlib.Core.Bool.{Bool, true, false, cond, not, _&&_}
 use mathlib.Core.Logic.{_↔_}
@@ -20,12 +20,14 @@ use Rattle.convert.specs.Whole.{allSmall}
 use Rattle.number.specs.Signed.{signedOf}
 use Rattle.convert.specs.Method.{identicalOf, sameProducts, soundMethod}
 use Rattle.convert.specs.Fraction.{none, turned, fraction, fractionOf}
-use Rattle.convert.specs.Round.{away, nearest, rawFor}
+use Rattle.convert.specs.Round.{Halves, away, toEven, nearest, rawFor}
+use Rattle.convert.specs.Edition.{editionOne, editionTwo, halvesOf}
 use Rattle.convert.specs.Asked.{nearestRaw, meansWithin, askedRaw}
 use Rattle.convert.specs.Told.{held}
 use Rattle.convert.proofs.Laws.{fraction-exact, stored-near, Stores, asked-stores, means-number}
-use Rattle.convert.proofs.Rounds.{half-away, quotient-none, quotient-is}
-use Rattle.tables.specs.Form.{methodSection, conversionCell, tableCell, lowerCell, upperCell, Tables, tablesIn, kind, first, mask, methodOf, limit, coefficients}
+use Rattle.convert.proofs.EditionLaws.{one-is-away, two-is-even}
+use Rattle.convert.proofs.Rounds.{half-away, half-even, quotient-none, quotient-is}
+use Rattle.tables.specs.Form.{methodSection, conversionCell, tableCell, lowerCell, upperCell, Tables, tablesIn, edition, kind, first, mask, methodOf, limit, coefficients}
 use Rattle.tables.specs.Group.{groupOf, placeOf}
 use Rattle.tables.specs.Rule.{isVerbal, isFraction, signsRule, wordRule, fractionRule, methodRule, keepsRule}
 use Rattle.tables.proofs.All.{left, three, all-at}
@@ -98,36 +100,46 @@ none-exactly k z = turned-none (k .f *ℤ z -ℤ k .c) (k .b -ℤ k .e *ℤ z)
 
 -- the judgement on the text is that on the asked value
 wants-asked : (T : Tables) (g : ℕ) (s : List ℕ) (z : ℤ) → wantedRaw T g (physicalText s) ≡ given z
-    → Stores (limit T g lowerCell) (limit T g upperCell) (asksBy T g) (shapeOf (kind T g)) (mask T g) s z
+    → Stores (halvesOf (edition T)) (limit T g lowerCell) (limit T g upperCell) (asksBy T g) (shapeOf (kind T g)) (mask T g) s z
 wants-asked T g s z = go (isTabVerb T g)
   where
-    go : (b : Bool) → cond (not b) (askedRaw (limit T g lowerCell) (limit T g upperCell) (asksBy T g) (shapeOf (kind T g)) (mask T g) s) (refused 15) ≡ given z
-        → Stores (limit T g lowerCell) (limit T g upperCell) (asksBy T g) (shapeOf (kind T g)) (mask T g) s z
+    go : (b : Bool) → cond (not b) (askedRaw (halvesOf (edition T)) (limit T g lowerCell) (limit T g upperCell) (asksBy T g) (shapeOf (kind T g)) (mask T g) s) (refused 15) ≡ given z
+        → Stores (halvesOf (edition T)) (limit T g lowerCell) (limit T g upperCell) (asksBy T g) (shapeOf (kind T g)) (mask T g) s z
     go true h = absurd (never 15 z h)
-    go false h = asked-stores (limit T g lowerCell) (limit T g upperCell) (asksBy T g) (shapeOf (kind T g)) (mask T g) s z h
+    go false h = asked-stores (halvesOf (edition T)) (limit T g lowerCell) (limit T g upperCell) (asksBy T g) (shapeOf (kind T g)) (mask T g) s z h
 
 -- the nearest raw number is a rounded quotient
-nearest-raw : (k : Coefficients) (p : Scaled) (z : ℤ) → nearestRaw away k p ≡ given z → rawFor away k (signedOf (p .negative) (p .whole)) (pos (10 ^ p .tens)) ≡ given z
+nearest-raw : (up : Halves) (k : Coefficients) (p : Scaled) (z : ℤ) → nearestRaw up k p ≡ given z → rawFor up k (signedOf (p .negative) (p .whole)) (pos (10 ^ p .tens)) ≡ given z
 unfolding nearestRaw
-nearest-raw k p z = go (allSmall k)
+nearest-raw up k p z = go (allSmall k)
   where
-    go : (b : Bool) → cond b (rawFor away k (signedOf (p .negative) (p .whole)) (pos (10 ^ p .tens))) (refused 17) ≡ given z → rawFor away k (signedOf (p .negative) (p .whole)) (pos (10 ^ p .tens)) ≡ given z
+    go : (b : Bool) → cond b (rawFor up k (signedOf (p .negative) (p .whole)) (pos (10 ^ p .tens))) (refused 17) ≡ given z → rawFor up k (signedOf (p .negative) (p .whole)) (pos (10 ^ p .tens)) ≡ given z
     go true h = h
     go false h = absurd (never 17 z h)
 
-module _ (k : Coefficients) (p : Scaled) (z : ℤ) (h : rawFor away k (signedOf (p .negative) (p .whole)) (pos (10 ^ p .tens)) ≡ given z) where
+module _ (up : Halves) (k : Coefficients) (p : Scaled) (z : ℤ) (h : rawFor up k (signedOf (p .negative) (p .whole)) (pos (10 ^ p .tens)) ≡ given z) where
   some-divisor : divisorAt k p ≡ pos 0 → ⊥
   unfolding rawFor
-  some-divisor e = never 17 z (quotient-none away (dividendAt k p) (divisorAt k p) e ∙ h)
+  some-divisor e = never 17 z (quotient-none up (dividendAt k p) (divisorAt k p) e ∙ h)
 
-  is-nearest : nearest away (dividendAt k p) (divisorAt k p) ≡ z
+  is-nearest : nearest up (dividendAt k p) (divisorAt k p) ≡ z
   unfolding rawFor
-  is-nearest = same-given (nearest away (dividendAt k p) (divisorAt k p)) z (quotient-is away (dividendAt k p) (divisorAt k p) some-divisor ∙ h)
+  is-nearest = same-given (nearest up (dividendAt k p) (divisorAt k p)) z (quotient-is up (dividendAt k p) (divisorAt k p) some-divisor ∙ h)
 
-  goes-away : TwiceOff k p z ≡ natAbs (divisorAt k p) → natAbs (dividendAt k p) < natAbs (z *ℤ divisorAt k p)
-  goes-away =
-      subst (λ (y : ℤ). TwiceOff k p y ≡ natAbs (divisorAt k p) → natAbs (dividendAt k p) < natAbs (y *ℤ divisorAt k p)) is-nearest
-      (half-away (dividendAt k p) (divisorAt k p) some-divisor)
+-- half a step from the quotient: by the edition's rule
+module _ (e : ℕ) (k : Coefficients) (p : Scaled) (z : ℤ) (h : rawFor (halvesOf e) k (signedOf (p .negative) (p .whole)) (pos (10 ^ p .tens)) ≡ given z) where
+  by-rule : (up : Halves) → halvesOf e ≡ up → nearest up (dividendAt k p) (divisorAt k p) ≡ z
+  by-rule up y = ap (λ (u : Halves). nearest u (dividendAt k p) (divisorAt k p)) (sym y) ∙ is-nearest (halvesOf e) k p z h
+
+  goes-away : e ≡ editionOne → TwiceOff k p z ≡ natAbs (divisorAt k p) → natAbs (dividendAt k p) < natAbs (z *ℤ divisorAt k p)
+  goes-away y =
+      subst (λ (w : ℤ). TwiceOff k p w ≡ natAbs (divisorAt k p) → natAbs (dividendAt k p) < natAbs (w *ℤ divisorAt k p)) (by-rule away (ap halvesOf y ∙ one-is-away))
+      (half-away (dividendAt k p) (divisorAt k p) (some-divisor (halvesOf e) k p z h))
+
+  goes-even : e ≡ editionTwo → TwiceOff k p z ≡ natAbs (divisorAt k p) → natAbs z % 2 ≡ 0
+  goes-even y =
+      subst (λ (w : ℤ). TwiceOff k p w ≡ natAbs (divisorAt k p) → natAbs w % 2 ≡ 0) (by-rule toEven (ap halvesOf y ∙ two-is-even))
+      (half-even (dividendAt k p) (divisorAt k p) (some-divisor (halvesOf e) k p z h))
 
 -- what is stored means a number within the limits: by its fraction, and by what a line then holds
 in-limits : (lower upper : Scaled) (k : Coefficients) (z : ℤ) → meansWithin lower upper k z ≡ true → InLimits lower upper (held (fractionOf k z))
@@ -140,20 +152,21 @@ fraction-limited lower upper k z h = rw (means-number lower upper k z h .exact) 
 
 -- what an element of group g is asked by
 abbrev pub NearestIn : Tables → ℕ → List ℕ → ℤ → Type 0
-NearestIn T g = Nearest (limit T g lowerCell) (limit T g upperCell) (asksBy T g) (shapeOf (kind T g)) (mask T g)
+NearestIn T g = Nearest (edition T) (limit T g lowerCell) (limit T g upperCell) (asksBy T g) (shapeOf (kind T g)) (mask T g)
 
 stores-so : (T : Tables) (g : ℕ) (s : List ℕ) (z : ℤ) → wantedRaw T g (physicalText s) ≡ given z → NearestIn T g s z
 stores-so T g s z h =
     let a = wants-asked T g s z h in
-    let r = nearest-raw (asksBy T g) (a .asked) z (a .near) in
+    let r = nearest-raw (halvesOf (edition T)) (asksBy T g) (a .asked) z (a .near) in
     record {
       asked = a .asked;
       form = a .form;
       exact = asked-exact s (a .asked) (a .form);
       within = a .within;
-      some = some-divisor (asksBy T g) (a .asked) z r;
-      near = stored-near away (asksBy T g) (signedOf (a .asked .negative) (a .asked .whole)) (pos (10 ^ a .asked .tens)) z r;
-      away = goes-away (asksBy T g) (a .asked) z r;
+      some = some-divisor (halvesOf (edition T)) (asksBy T g) (a .asked) z r;
+      near = stored-near (halvesOf (edition T)) (asksBy T g) (signedOf (a .asked .negative) (a .asked .whole)) (pos (10 ^ a .asked .tens)) z r;
+      away = goes-away (edition T) (asksBy T g) (a .asked) z r;
+      even = goes-even (edition T) (asksBy T g) (a .asked) z r;
       fits = a .fits;
       means = fraction-limited (limit T g lowerCell) (limit T g upperCell) (asksBy T g) z (a .means);
     }
@@ -162,7 +175,7 @@ stores-so T g s z h =
 plain-asked : (T : Tables) (g : ℕ) (s : List ℕ) (z : ℤ) → wantedRaw T g (physicalText s) ≡ given z → isTabVerb T g ≡ false
 plain-asked T g s z = go (isTabVerb T g)
   where
-    go : (b : Bool) → cond (not b) (askedRaw (limit T g lowerCell) (limit T g upperCell) (asksBy T g) (shapeOf (kind T g)) (mask T g) s) (refused 15) ≡ given z → b ≡ false
+    go : (b : Bool) → cond (not b) (askedRaw (halvesOf (edition T)) (limit T g lowerCell) (limit T g upperCell) (asksBy T g) (shapeOf (kind T g)) (mask T g) s) (refused 15) ≡ given z → b ≡ false
     go true h = absurd (never 15 z h)
     go false h = refl
 

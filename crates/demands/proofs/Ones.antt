@@ -6,6 +6,7 @@ use mathlib.Core.Path.{_≡_, refl, sym, _∙_, ap}
 use mathlib.Core.List.{List}
 use Rattle.text.specs.Answer as text
 use Rattle.number.specs.Answer as number
+use Rattle.tables.specs.declared.setting.Setting.{Setting}
 use Rattle.load.specs.Load.{Loaded, loaded, loadedOf}
 use Rattle.load.specs.declared.LoadAnswer.{LoadAnswer}
 use Rattle.load.specs.declared.LoadAnswer.the-variants as load
@@ -36,9 +37,9 @@ work-back load.Accepted t w = refl
 work-back (load.Refused n p) t w = refl
 
 -- a load that answers r and leaves t and w, and one that answers s and leaves u and v, are the same
-pub load-one : (x image : List ℕ) (base : ℕ) (tables work : List ℕ) (r s : LoadAnswer) (t u w v : List ℕ)
-    → loadedOf r t w ≡ loaded x image base tables work → loadedOf s u v ≡ loaded x image base tables work → (r ≡ s) × (t ≡ u) × (w ≡ v)
-load-one x image base tables work r s t u w v p q =
+pub load-one : (x image : List ℕ) (setting : Setting) (tables work : List ℕ) (r s : LoadAnswer) (t u w v : List ℕ)
+    → loadedOf r t w ≡ loaded x image setting tables work → loadedOf s u v ≡ loaded x image setting tables work → (r ≡ s) × (t ≡ u) × (w ≡ v)
+load-one x image setting tables work r s t u w v p q =
     let e : loadedOf r t w ≡ loadedOf s u v = p ∙ sym q in (
       sym (load-back r t w) ∙ ap (λ (l : Loaded). loadAnswer (l .answer)) e ∙ load-back s u v,
       sym (tables-back r t w) ∙ ap (λ (l : Loaded). l .tables) e ∙ tables-back s u v,
@@ -76,9 +77,9 @@ line-one x t base k object part index out r s o u = same-listed (printing x t ba
 
 -- ---- the C functions: one number, and one content of each lent buffer
 
-pub c-load-one : (x image : List ℕ) (base : ℕ) (tables work : List ℕ) (r s : ℕ) (t u w v : List ℕ)
-    → loadCall r t w ≡ loadTold (loaded x image base tables work) → loadCall s u v ≡ loadTold (loaded x image base tables work) → (r ≡ s) × (t ≡ u) × (w ≡ v)
-c-load-one x image base tables work r s t u w v p q =
+pub c-load-one : (x image : List ℕ) (setting : Setting) (tables work : List ℕ) (r s : ℕ) (t u w v : List ℕ)
+    → loadCall r t w ≡ loadTold (loaded x image setting tables work) → loadCall s u v ≡ loadTold (loaded x image setting tables work) → (r ≡ s) × (t ≡ u) × (w ≡ v)
+c-load-one x image setting tables work r s t u w v p q =
     (ap (λ (c : LoadCall). c .number) (p ∙ sym q), ap (λ (c : LoadCall). c .tables) (p ∙ sym q), ap (λ (c : LoadCall). c .work) (p ∙ sym q))
 
 pub c-find-one : (x t n : List ℕ) (l : Lent) (r s : ℤ) → r ≡ findNumber (searched x t l n) → s ≡ findNumber (searched x t l n) → r ≡ s

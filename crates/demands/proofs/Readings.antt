@@ -14,6 +14,7 @@ use Rattle.records.specs.Records.{count}
 use Rattle.rows.specs.Sections as records
 use Rattle.grammar.specs.Move.{view}
 use Rattle.objects.specs.Object.{layoutOf, firstOf, needOf}
+use Rattle.tables.specs.declared.setting.Setting.{Setting}
 use Rattle.tables.specs.Form.{objectSection, tablesIn}
 use Rattle.tables.specs.Group.{groupOf, elements, placeOf}
 use Rattle.tree.specs.Tree.{Records}
@@ -27,15 +28,15 @@ use Rattle.demands.proofs.Loaded as loaded
 use Rattle.demands.proofs.Standing.{part-held}
 use Rattle.demands.proofs.Valued.{value-by}
 
-module _ (x image : List ℕ) (base : ℕ) (lent work : List ℕ) (f : Fits x image base lent work) (k : Keeps x image base) where
+module _ (x image : List ℕ) (setting : Setting) (lent work : List ℕ) (f : Fits x image setting lent work) (k : Keeps x image (setting .base)) where
   abbrev d : Records
   d = k .records
 
   abbrev t : List ℕ
-  t = loaded.t x image base lent work f k
+  t = loaded.t x image setting lent work f k
 
   -- in an image of bytes as long as the load's: the same, or what writes have left
-  module _ (now : List ℕ) (long : length now ≡ length image) (bytes : (j : ℕ) → getD now j 0 < 256) (i : ℕ) (l : i < count d records.object) (p : Part) (e : needed (needOf image base x (view d) i) p ≡ true) (j : ℕ)
+  module _ (now : List ℕ) (long : length now ≡ length image) (bytes : (j : ℕ) → getD now j 0 < 256) (i : ℕ) (l : i < count d records.object) (p : Part) (e : needed (needOf image (setting .base) x (view d) i) p ≡ true) (j : ℕ)
       (below : j < acrossOf (k .objects i l .places) p * downOf (k .objects i l .places) p) where
     abbrev g : ℕ
     g = groupOf i (numberOf p)
@@ -47,34 +48,34 @@ module _ (x image : List ℕ) (base : ℕ) (lent work : List ℕ) (f : Fits x im
     is-element : isElement (tablesIn t) i (numberOf p) j ≡ true
     unfolding isElement
     is-element =
-        let h = part-held x image base lent work f k i l p e .stands in
+        let h = part-held x image setting lent work f k i l p e .stands in
         rw (
-          lt-ltb i (tablesIn t .counts objectSection) (rw (loaded.objects-of x image base lent work f k) l),
+          lt-ltb i (tablesIn t .counts objectSection) (rw (loaded.objects-of x image setting lent work f k) l),
           lt-ltb (numberOf p) 3 (loaded.part-below p),
           lt-ltb j (elements (tablesIn t) g) (rw (h .across, h .down) below),
         )
 
-    answered : reading t now (lentOf (length x) (length now) base) i (numberOf p) j ≡ given answer
+    answered : reading t now (lentOf (length x) (length now) (setting .base)) i (numberOf p) j ≡ given answer
     unfolding reading checked
-    answered = rw (long, loaded.sizes x image base lent work f k, loaded.keeps-rule x image base lent work f k, is-element)
+    answered = rw (long, loaded.sizes x image setting lent work f k, loaded.keeps-rule x image setting lent work f k, is-element)
 
     raw-is : rawIn (tablesIn t) now g j
-        ≡ rawAt (firstOf (view d) i) (elementAt x (view d) i (layoutOf x (view d) i) (k .objects i l .places) p j - base) (shapeOf (typeOf (layoutOf x (view d) i) p)) (partMask x (view d) i p) now
+        ≡ rawAt (firstOf (view d) i) (elementAt x (view d) i (layoutOf x (view d) i) (k .objects i l .places) p j - setting .base) (shapeOf (typeOf (layoutOf x (view d) i) p)) (partMask x (view d) i p) now
     unfolding rawIn
     raw-is =
-        let h = part-held x image base lent work f k i l p e in
-        let a : placeOf (tablesIn t) g j ≡ elementAt x (view d) i (layoutOf x (view d) i) (k .objects i l .places) p j - base = omega (arith, h .element j) in
+        let h = part-held x image setting lent work f k i l p e in
+        let a : placeOf (tablesIn t) g j ≡ elementAt x (view d) i (layoutOf x (view d) i) (k .objects i l .places) p j - setting .base = omega (arith, h .element j) in
         rw (h .order, h .stands .type, h .masked, a)
 
-    pub element-read : (r : Reading) × (reading t now (lentOf (length x) (length now) base) i (numberOf p) j ≡ given r)
-        × ReadsAs x (view d) i now base (layoutOf x (view d) i) (k .objects i l .places) p j r
+    pub element-read : (r : Reading) × (reading t now (lentOf (length x) (length now) (setting .base)) i (numberOf p) j ≡ given r)
+        × ReadsAs x (view d) i now (setting .base) (layoutOf x (view d) i) (k .objects i l .places) p j r
     element-read = (
       answer,
       answered,
       record {
         raw = raw-is;
         value = means (tablesIn t) g (rawIn (tablesIn t) now g j);
-        by = value-by x image base lent work f k i l p e now bytes j;
+        by = value-by x image setting lent work f k i l p e now bytes j;
         is-held = refl;
         is-shown = refl;
       },

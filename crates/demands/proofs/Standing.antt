@@ -14,6 +14,7 @@ use Rattle.grammar.specs.Move.{View, view}
 use Rattle.cell.specs.Kind.{shapeOf}
 use Rattle.place.specs.declared.walk.Places.{Places}
 use Rattle.objects.specs.Object.{layoutOf, firstOf, needOf, placesOf}
+use Rattle.tables.specs.declared.setting.Setting.{Setting}
 use Rattle.build.specs.Build.{flag, methodIn, forbids, limitCells, meaning, standingCells, counterCells, xPart, yPart, valuesPart, knownOf, built}
 use Rattle.build.proofs.BuiltLaws.{Within, slot-x, slot-y, slot-values}
 use Rattle.tables.specs.Form.{groupSection, lowerCell, upperCell, Tables, tablesOf, tablesIn, first, walk, methodOf, mask, forbidden, limit, x as acrossIn, wide, high, kind}
@@ -26,6 +27,7 @@ use Rattle.keeps.proofs.Elements.{element-stands}
 use Rattle.demands.specs.Rules.{Fits, Keeps}
 use Rattle.demands.specs.Standing.{walkOf, partMask, sourceOf, measures, readOnly, partLower, partUpper, PartHolds}
 use Rattle.demands.proofs.Ruling.{places-are, keeps-accepted}
+use Rattle.demands.proofs.Accepting.{fits-edition}
 use Rattle.demands.proofs.Loaded.{elements, made, is-read, within, same}
 
 flag-not : (b : Bool) → not (eqb (flag b) 0) ≡ b
@@ -39,32 +41,32 @@ back a b c d p q r l =
     let t : min c 7 ≡ d .tens = omega arith in
     λ i. record { negative = n i; whole = q i; tens = t i }
 
-module _ (image : List ℕ) (base : ℕ) (x : List ℕ) (d : List (List (List ℕ))) (n : ℕ) (w : Within (view d)) (i : ℕ) (below : i < count d records.object) where
+module _ (image : List ℕ) (setting : Setting) (x : List ℕ) (d : List (List (List ℕ))) (n : ℕ) (w : Within (view d)) (i : ℕ) (below : i < count d records.object) where
   abbrev v : View
   v = view d
 
   abbrev T : Tables
-  T = tablesOf (built image base x (view d) n)
+  T = tablesOf (built image setting x (view d) n)
 
   -- a stored count's cells; values have none
   abbrev countOf : Part → List ℕ
-  countOf points-x = counterCells (layoutOf x v i .nx) (placesOf image base x v i .nx - base)
-  countOf points-y = counterCells (layoutOf x v i .ny) (placesOf image base x v i .ny - base)
+  countOf points-x = counterCells (layoutOf x v i .nx) (placesOf image (setting .base) x v i .nx - setting .base)
+  countOf points-y = counterCells (layoutOf x v i .ny) (placesOf image (setting .base) x v i .ny - setting .base)
   countOf values = 0 ∷ 0 ∷ []
 
   -- the cells of a part
   abbrev rowOf : Part → List ℕ
   rowOf p =
-      standingCells (typeOf (layoutOf x v i) p) (firstOf v i) (addressOf (placesOf image base x v i) p - base) (acrossOf (placesOf image base x v i) p) (downOf (placesOf image base x v i) p) (walkOf x v i p)
+      standingCells (typeOf (layoutOf x v i) p) (firstOf v i) (addressOf (placesOf image (setting .base) x v i) p - setting .base) (acrossOf (placesOf image (setting .base) x v i) p) (downOf (placesOf image (setting .base) x v i) p) (walkOf x v i p)
       ++ (meaning x v (sourceOf x v i p) (partMask x v i p) (measures x v i p) ++ countOf p)
 
-  part-row : (p : Part) → needed (needOf image base x v i) p ≡ true → (k : ℕ) → T .slots groupSection (groupOf i (numberOf p)) k ≡ getD (rowOf p) k 0
+  part-row : (p : Part) → needed (needOf image (setting .base) x v i) p ≡ true → (k : ℕ) → T .slots groupSection (groupOf i (numberOf p)) k ≡ getD (rowOf p) k 0
   unfolding xPart yPart valuesPart knownOf
-  part-row points-x e k = let z : i * 3 + 0 ≡ i * 3 = omega arith in rw z (rw e at (slot-x image base x v n w i k below))
-  part-row points-y e k = rw e at (slot-y image base x v n w i k below)
-  part-row values e k = rw e at (slot-values image base x v n w i k below)
+  part-row points-x e k = let z : i * 3 + 0 ≡ i * 3 = omega arith in rw z (rw e at (slot-x image setting x v n w i k below))
+  part-row points-y e k = rw e at (slot-y image setting x v n w i k below)
+  part-row values e k = rw e at (slot-values image setting x v n w i k below)
 
-  module _ (p : Part) (e : needed (needOf image base x v i) p ≡ true) where
+  module _ (p : Part) (e : needed (needOf image (setting .base) x v i) p ≡ true) where
     abbrev g : ℕ
     g = groupOf i (numberOf p)
 
@@ -94,19 +96,19 @@ module _ (image : List ℕ) (base : ℕ) (x : List ℕ) (d : List (List (List �
     unfolding meaning limitCells
     upper-is = back (T .slots groupSection g 14) (T .slots groupSection g 15) (T .slots groupSection g 16) (partUpper x v i p) (part-row p e 14) (part-row p e 15) (part-row p e 16) (omega arith)
 
-    element-is : (m : ℕ) (s : StandsAt T g base m (layoutOf x v i) (placesOf image base x v i) p) (j : ℕ)
-        → base + placeOf T g j
-        ≡ addressOf (placesOf image base x v i) p + shapeOf (typeOf (layoutOf x v i) p) .bytes * position (walkOf x v i p) (acrossOf (placesOf image base x v i) p) (acrossOf (placesOf image base x v i) p) (downOf (placesOf image base x v i) p) j
+    element-is : (m : ℕ) (s : StandsAt T g (setting .base) m (layoutOf x v i) (placesOf image (setting .base) x v i) p) (j : ℕ)
+        → setting .base + placeOf T g j
+        ≡ addressOf (placesOf image (setting .base) x v i) p + shapeOf (typeOf (layoutOf x v i) p) .bytes * position (walkOf x v i p) (acrossOf (placesOf image (setting .base) x v i) p) (acrossOf (placesOf image (setting .base) x v i) p) (downOf (placesOf image (setting .base) x v i) p) j
     unfolding placeOf
     element-is m s j =
-        let a : wide T g ≡ acrossOf (placesOf image base x v i) p = omega (arith, s .across, part-row p e 3, part-row p e 5) in
-        let b : high T g ≡ downOf (placesOf image base x v i) p = omega (arith, s .down, part-row p e 4, part-row p e 6) in
+        let a : wide T g ≡ acrossOf (placesOf image (setting .base) x v i) p = omega (arith, s .across, part-row p e 3, part-row p e 5) in
+        let b : high T g ≡ downOf (placesOf image (setting .base) x v i) p = omega (arith, s .down, part-row p e 4, part-row p e 6) in
         let c : shapeOf (kind T g) .bytes * position (walk T g) (acrossIn T g) (wide T g) (high T g) j
-        ≡ shapeOf (typeOf (layoutOf x v i) p) .bytes * position (walkOf x v i p) (acrossOf (placesOf image base x v i) p) (acrossOf (placesOf image base x v i) p) (downOf (placesOf image base x v i) p) j =
+        ≡ shapeOf (typeOf (layoutOf x v i) p) .bytes * position (walkOf x v i p) (acrossOf (placesOf image (setting .base) x v i) p) (acrossOf (placesOf image (setting .base) x v i) p) (downOf (placesOf image (setting .base) x v i) p) j =
         rw (s .type, walk-is, s .across, a, b) in
         omega (arith, s .address, c)
 
-    holds : (m : ℕ) → StandsAt T g base m (layoutOf x v i) (placesOf image base x v i) p → PartHolds x v i T g base m (layoutOf x v i) (placesOf image base x v i) p
+    holds : (m : ℕ) → StandsAt T g (setting .base) m (layoutOf x v i) (placesOf image (setting .base) x v i) p → PartHolds x v i T g (setting .base) m (layoutOf x v i) (placesOf image (setting .base) x v i) p
     holds m s = record {
       stands = s;
       element = element-is m s;
@@ -119,13 +121,13 @@ module _ (image : List ℕ) (base : ℕ) (x : List ℕ) (d : List (List (List �
     }
 
 -- in the tables that an accepted load leaves, part p of object i, where the object needs it
-pub part-held : (x image : List ℕ) (base : ℕ) (lent work : List ℕ) → Fits x image base lent work → (k : Keeps x image base) (i : ℕ) (l : i < count (k .records) records.object) (p : Part)
-    → needed (needOf image base x (view (k .records)) i) p ≡ true
-    → PartHolds x (view (k .records)) i (tablesIn (loaded x image base lent work .tables)) (groupOf i (numberOf p)) base (length image) (layoutOf x (view (k .records)) i) (k .objects i l .places) p
-part-held x image base lent work f k i l p e =
+pub part-held : (x image : List ℕ) (setting : Setting) (lent work : List ℕ) → Fits x image setting lent work → (k : Keeps x image (setting .base)) (i : ℕ) (l : i < count (k .records) records.object) (p : Part)
+    → needed (needOf image (setting .base) x (view (k .records)) i) p ≡ true
+    → PartHolds x (view (k .records)) i (tablesIn (loaded x image setting lent work .tables)) (groupOf i (numberOf p)) (setting .base) (length image) (layoutOf x (view (k .records)) i) (k .objects i l .places) p
+part-held x image setting lent work f k i l p e =
     let d = k .records in
-    let w : Within (view d) = within x image base lent work f k in
-    let n : Taken image base x (made x image base lent work f k) = record { records = d; is-read = is-read x image base lent work f k; accepted = keeps-accepted x image base k; is-built = refl } in
-    subst (λ (T : Tables). PartHolds x (view d) i T (groupOf i (numberOf p)) base (length image) (layoutOf x (view d) i) (k .objects i l .places) p) (sym (same x image base lent work f k))
-    (subst (λ (at : Places). PartHolds x (view d) i (tablesOf (made x image base lent work f k)) (groupOf i (numberOf p)) base (length image) (layoutOf x (view d) i) at p) (places-are image base x d i (k .objects i l))
-    (holds image base x d (elements x image base lent work f k) w i l p e (length image) (element-stands image base x (made x image base lent work f k) n (f .image-fits) i l p e)))
+    let w : Within (view d) = within x image setting lent work f k in
+    let n : Taken image setting x (made x image setting lent work f k) = record { records = d; is-read = is-read x image setting lent work f k; accepted = keeps-accepted x image (setting .base) k; is-built = refl } in
+    subst (λ (T : Tables). PartHolds x (view d) i T (groupOf i (numberOf p)) (setting .base) (length image) (layoutOf x (view d) i) (k .objects i l .places) p) (sym (same x image setting lent work f k))
+    (subst (λ (at : Places). PartHolds x (view d) i (tablesOf (made x image setting lent work f k)) (groupOf i (numberOf p)) (setting .base) (length image) (layoutOf x (view d) i) at p) (places-are image (setting .base) x d i (k .objects i l))
+    (holds image setting x d (elements x image setting lent work f k) w i l p e (length image) (element-stands image setting x (made x image setting lent work f k) n (fits-edition x image setting lent work f) (f .image-fits) i l p e)))

@@ -17,6 +17,7 @@ use Rattle.rows.specs.Codes.{TAB-VERB}
 use Rattle.rows.specs.Sections.{method, table, entry}
 use Rattle.rows.specs.Slots.{first-held, conversion-type, default-value, default-value-past, entry-sign, entry-text, entry-text-past}
 use Rattle.grammar.specs.Move.{view}
+use Rattle.tables.specs.declared.setting.Setting.{Setting}
 use Rattle.build.specs.Build.{tableNumber, verbalRow, methodRow, entriesEnd, tableRow, entryRow}
 use Rattle.build.proofs.BuiltLaws.{count-tables, count-entries, slot-method, slot-table, slot-entry}
 use Rattle.tables.specs.Form.{methodSection, tableSection, entrySection, conversionCell, tableCell, firstEntryCell, entriesCell, defaultCell, defaultPastCell, Tables, tablesIn, methodOf}
@@ -42,25 +43,25 @@ sign-cell : (a : ℕ) → eqb (min a 1) 0 ≡ eqb a 0
 sign-cell zero = refl
 sign-cell (suc a) = let e : min (suc a) 1 ≡ 1 = omega arith in rw (e, ne-eqb (suc a) 0 (λ z. omega arith))
 
-module _ (x image : List ℕ) (base : ℕ) (lent work : List ℕ) (f : Fits x image base lent work) (k : Keeps x image base) where
+module _ (x image : List ℕ) (setting : Setting) (lent work : List ℕ) (f : Fits x image setting lent work) (k : Keeps x image (setting .base)) where
   abbrev d : Records
   d = k .records
 
   abbrev n : ℕ
-  n = loaded.elements x image base lent work f k
+  n = loaded.elements x image setting lent work f k
 
   abbrev T : Tables
-  T = tablesIn (loaded.t x image base lent work f k)
+  T = tablesIn (loaded.t x image setting lent work f k)
 
-  slot-is : (j i c : ℕ) → T .slots j i c ≡ slot (loaded.made x image base lent work f k) j i c
-  slot-is j i c = ap (λ (S : Tables). S .slots j i c) (loaded.same x image base lent work f k)
+  slot-is : (j i c : ℕ) → T .slots j i c ≡ slot (loaded.made x image setting lent work f k) j i c
+  slot-is j i c = ap (λ (S : Tables). S .slots j i c) (loaded.same x image setting lent work f k)
 
   -- ---- a method with TAB_VERB
   method-is : (m s : ℕ) → m < count d method → slot d method m conversion-type ≡ TAB-VERB → tableNumber x (view d) m ≡ suc s → (c : ℕ) → T .slots methodSection m c ≡ getD (verbalRow (suc s)) c 0
   unfolding methodRow
   method-is m s l v u c =
       slot-is methodSection m c
-      ∙ (rw (eq-eqb (slot d method m conversion-type) TAB-VERB v, u, ne-eqb (suc s) 0 (λ z. omega arith)) at (slot-method image base x (view d) n (loaded.within x image base lent work f k) m c l))
+      ∙ (rw (eq-eqb (slot d method m conversion-type) TAB-VERB v, u, ne-eqb (suc s) 0 (λ z. omega arith)) at (slot-method image setting x (view d) n (loaded.within x image setting lent work f k) m c l))
 
   -- a group whose method it is has a verbal table, which is s
   pub verbal-held : (g m s : ℕ) → m < count d method → slot d method m conversion-type ≡ TAB-VERB → tableNumber x (view d) m ≡ suc s → methodOf T g ≡ suc m
@@ -74,20 +75,20 @@ module _ (x image : List ℕ) (base : ℕ) (lent work : List ℕ) (f : Fits x im
   -- ---- its table
   module _ (s : ℕ) (l : s < count d table) where
     table-is : (c : ℕ) → T .slots tableSection s c ≡ getD (tableRow (view d) s) c 0
-    table-is c = slot-is tableSection s c ∙ slot-table image base x (view d) n (loaded.within x image base lent work f k) s c l
+    table-is c = slot-is tableSection s c ∙ slot-table image setting x (view d) n (loaded.within x image setting lent work f k) s c l
 
     entry-is : (e : ℕ) → e < count d entry → (c : ℕ) → T .slots entrySection e c ≡ getD (entryRow (view d) e) c 0
-    entry-is e h c = slot-is entrySection e c ∙ slot-entry image base x (view d) n (loaded.within x image base lent work f k) e c h
+    entry-is e h c = slot-is entrySection e c ∙ slot-entry image setting x (view d) n (loaded.within x image setting lent work f k) e c h
 
     number-is : (e : ℕ) → e < count d entry → numberAt T e ≡ entryNumber x (view d) e
     number-is e h = rw (entry-is e h 0, entry-is e h 1, sign-cell (slot d entry e entry-sign))
 
     below : T .slots tableSection s firstEntryCell + T .slots tableSection s entriesCell ≤ count d entry
     below =
-        let b = entries-below (length x) (length image) (loaded.t x image base lent work f k) (loaded.keeps-rule x image base lent work f k) s
-        (rw (ap (λ (S : Tables). S .counts tableSection) (loaded.same x image base lent work f k) ∙ count-tables image base x (view d) n (loaded.within x image base lent work f k)) l) in
+        let b = entries-below (length x) (length image) (loaded.t x image setting lent work f k) (loaded.keeps-rule x image setting lent work f k) s
+        (rw (ap (λ (S : Tables). S .counts tableSection) (loaded.same x image setting lent work f k) ∙ count-tables image setting x (view d) n (loaded.within x image setting lent work f k)) l) in
         let c : T .counts entrySection ≡ count d entry =
-        ap (λ (S : Tables). S .counts entrySection) (loaded.same x image base lent work f k) ∙ count-entries image base x (view d) n (loaded.within x image base lent work f k) in
+        ap (λ (S : Tables). S .counts entrySection) (loaded.same x image setting lent work f k) ∙ count-entries image setting x (view d) n (loaded.within x image setting lent work f k) in
         omega arith
 
     pub table-text : (z : ℤ) (w : Value) → TableSays T s z w → TableText x (view d) s z w

@@ -12,6 +12,8 @@ use Rattle.text.specs.Answer.{Answer, given, refused}
 use Rattle.text.proofs.Within.{by-test}
 use Rattle.records.specs.Cells.{room}
 use Rattle.rows.specs.Sections as records
+use Rattle.convert.specs.Edition.{isEdition}
+use Rattle.tables.specs.declared.setting.Setting.{Setting}
 use Rattle.tables.specs.Sizes.{sizesFit}
 use Rattle.load.specs.Load.{described, Loaded, left, loaded}
 use Rattle.numbers.specs.Numbers.{loadNumber}
@@ -21,16 +23,17 @@ use Rattle.refusals.proofs.Moves.{Answered}
 use Rattle.refusals.proofs.Refusing.{described-told}
 use Rattle.demands.proofs.Accepting.{enough-fits}
 
-module _ (x image : List ℕ) (base : ℕ) (tables work : List ℕ) where
+module _ (x image : List ℕ) (setting : Setting) (tables work : List ℕ) where
   left-tellable : length x ≤ 2 ^ 24 → (a : Answer (List (List (List ℕ)))) → Answered (length x) a → Tellable (left (length tables) (length work) a .answer)
   left-tellable l (given D) h = tt
   left-tellable l (refused n p) h = omega (arith, h .0 .0, h .0 .1, h .1)
 
-  pub load-tellable : Tellable (loaded x image base tables work .answer)
+  pub load-tellable : Tellable (loaded x image setting tables work .answer)
   unfolding loaded
   load-tellable =
-      by-test (λ (o : Loaded). Tellable (o .answer)) (sizesFit (length x) (length image) base (length tables) && leb (room records.sections) (length work))
-      (λ t. left-tellable (enough-fits x image base tables work t .text-fits) (described image base x) (described-told image base x)) (λ t. omega arith)
+      by-test (λ (o : Loaded). Tellable (o .answer)) (sizesFit (length x) (length image) (setting .base) (length tables) && leb (room records.sections) (length work))
+      (λ t. by-test (λ (o : Loaded). Tellable (o .answer)) (isEdition (setting .edition))
+      (λ v. left-tellable (enough-fits x image setting tables work t v .text-fits) (described image setting x) (described-told image setting x)) (λ v. omega arith)) (λ t. omega arith)
 
-  pub load-number-tells : loadBack (loadNumber (loaded x image base tables work .answer)) ≡ loaded x image base tables work .answer
-  load-number-tells = load-number-back (loaded x image base tables work .answer) load-tellable
+  pub load-number-tells : loadBack (loadNumber (loaded x image setting tables work .answer)) ≡ loaded x image setting tables work .answer
+  load-number-tells = load-number-back (loaded x image setting tables work .answer) load-tellable

@@ -11,6 +11,7 @@ use mathlib.Core.List.{List}
 use lib.IntN.{ℤ}
 use lib.ListN.{length, getD}
 use Rattle.text.specs.Answer as text
+use Rattle.tables.specs.declared.setting.Setting.{Setting}
 use Rattle.tables.specs.Form.{tablesIn, total}
 use Rattle.load.specs.Load.{loaded}
 use Rattle.keeps.specs.Accepted.{allElements}
@@ -23,15 +24,15 @@ use Rattle.demands.proofs.Frames as frames
 use Rattle.demands.proofs.Runs as runs
 
 -- from an accepted load on
-module _ (x image : List ℕ) (base : ℕ) (tables work : List ℕ) (ok : loaded x image base tables work .answer ≡ text.given tt) where
+module _ (x image : List ℕ) (setting : Setting) (tables work : List ℕ) (ok : loaded x image setting tables work .answer ≡ text.given tt) where
   -- the list has a line for each element of all objects
-  pub as-many-lines : (k : Keeps x image base) → total (tablesIn (loaded x image base tables work .tables)) ≡ allElements image base x (k .records)
-  as-many-lines = keeping.all-elements x image base tables work ok
+  pub as-many-lines : (k : Keeps x image (setting .base)) → total (tablesIn (loaded x image setting tables work .tables)) ≡ allElements image (setting .base) x (k .records)
+  as-many-lines = keeping.all-elements x image setting tables work ok
 
   -- with so many lines in each of the four columns making the list is accepted, and after any requests image and list are those of a list made anew
-  pub kept-anew : (raw : List ℤ) (state : List ℕ) (first second : List ℤ) → total (tablesIn (loaded x image base tables work .tables)) ≤ room (kept image raw state first second)
-      → Anew (loaded x image base tables work .tables) (length x) base (kept image raw state first second)
-  kept-anew = keeping.kept-anew x image base tables work ok
+  pub kept-anew : (raw : List ℤ) (state : List ℕ) (first second : List ℤ) → total (tablesIn (loaded x image setting tables work .tables)) ≤ room (kept image raw state first second)
+      → Anew (loaded x image setting tables work .tables) (length x) (setting .base) (kept image raw state first second)
+  kept-anew = keeping.kept-anew x image setting tables work ok
 
 -- what a write leaves alone, in an image of bytes
 pub framed : (t : List ℕ) (n base : ℕ) (k : Kept) (q : Request) → ((j : ℕ) → getD (k .image) j 0 < 256) → Frame t (groupIn q) (q .index) k (writing t n base k q .left)

@@ -22,6 +22,7 @@ use Rattle.grammar.specs.Move.{view}
 use Rattle.refer.specs.Refer.{row, innerRows, referenceRows, isFree}
 use Rattle.methods.specs.Methods.{coefficients}
 use Rattle.objects.specs.Object.{needOf}
+use Rattle.tables.specs.declared.setting.Setting.{Setting}
 use Rattle.build.specs.Build.{methodIn}
 use Rattle.tables.specs.Form.{methodSection, tableCell, tablesIn, methodOf}
 use Rattle.tables.specs.Group.{groupOf}
@@ -44,18 +45,18 @@ use Rattle.demands.proofs.Sources.{pointed, MethodBy, no-method, a-meth
 use Rattle.demands.proofs.Converting.{verbal-not, asks-some, verbal-none, asks-none, method-held}
 use Rattle.demands.proofs.Meaning.{value-exact}
 
-module _ (x image : List ℕ) (base : ℕ) (lent work : List ℕ) (f : Fits x image base lent work) (k : Keeps x image base) where
+module _ (x image : List ℕ) (setting : Setting) (lent work : List ℕ) (f : Fits x image setting lent work) (k : Keeps x image (setting .base)) where
   abbrev d : Records
   d = k .records
 
   abbrev t : List ℕ
-  t = loaded.t x image base lent work f k
+  t = loaded.t x image setting lent work f k
 
   -- "TAB_VERB with COMPU_TAB_REF to a COMPU_VTAB": the table of a method
   table-of : (m : ℕ) → m < count d method → slot d method m conversion-type ≡ TAB-VERB → (s : ℕ) × Bears x (view d) table (slot d method m compu-tab-ref) (slot d method m compu-tab-ref-past) s
   unfolding referenceRows innerRows isFree
   table-of m l v =
-      by-lead (k .references (row method compu-tab-ref table 0 0) (inr (inr (inr (inr (inr (inr (inl refl))))))) m l (λ z. let c = pointed x image base k .tabled m v in omega arith))
+      by-lead (k .references (row method compu-tab-ref table 0 0) (inr (inr (inr (inr (inr (inr (inl refl))))))) m l (λ z. let c = pointed x image (setting .base) k .tabled m v in omega arith))
     where
       by-lead : Leads x (view d) (row method compu-tab-ref table 0 0) (slot d method m compu-tab-ref) (slot d method m compu-tab-ref-past)
           → (s : ℕ) × Bears x (view d) table (slot d method m compu-tab-ref) (slot d method m compu-tab-ref-past) s
@@ -75,15 +76,15 @@ module _ (x image : List ℕ) (base : ℕ) (lent work : List ℕ) (f : Fits x im
       by-type true y =
           let v = eqb-true (slot d method m conversion-type) TAB-VERB y in
           let s = table-of m (b .below) v in
-          let h = verbal-held x image base lent work f k g m (s .0) (b .below) v (bears-found x (view d) table (slot d method m compu-tab-ref) (slot d method m compu-tab-ref-past) (s .0) (s .1)) q in
+          let h = verbal-held x image setting lent work f k g m (s .0) (b .below) v (bears-found x (view d) table (slot d method m compu-tab-ref) (slot d method m compu-tab-ref-past) (s .0) (s .1)) q in
           verbal (s .0) (s .1 .below) (by-reference m (s .0) u b v (s .1)) (h .0) (h .1)
       by-type false y =
           let v = eqb-false (slot d method m conversion-type) TAB-VERB y in
           let c = given-of (coefficients (view d) m) (method-keeps (view d) m .1 (k .conversions m (b .below))) in
-          let h = method-held x image base lent work f k m (b .below) v (c .0) (c .1) in
+          let h = method-held x image setting lent work f k m (b .below) v (c .0) (c .1) in
           plain (c .0) (by-method m (c .0) u b v (c .1)) (verbal-not (tablesIn t) g m q (h .0)) (asks-some (tablesIn t) g m q (c .0) (h .1))
 
-  module _ (i : ℕ) (l : i < count d object) (p : Part) (e : needed (needOf image base x (view d) i) p ≡ true) where
+  module _ (i : ℕ) (l : i < count d object) (p : Part) (e : needed (needOf image (setting .base) x (view d) i) p ≡ true) where
     -- the group of part p, and where the name of its conversion stands
     abbrev g : ℕ
     g = groupOf i (numberOf p)
@@ -95,7 +96,7 @@ module _ (x image : List ℕ) (base : ℕ) (lent work : List ℕ) (f : Fits x im
     past = conversionPast x (view d) i p
 
     part-converted : ConvertedBy from past g
-    part-converted = converted-by from past g (methodIn x (view d) (sourceOf x (view d) i p)) (method-named x image base k i l p e) (part-held x image base lent work f k i l p e .converted)
+    part-converted = converted-by from past g (methodIn x (view d) (sourceOf x (view d) i p)) (method-named x image (setting .base) k i l p e) (part-held x image setting lent work f k i l p e .converted)
 
     -- what the raw number of element j of part p of object i means, in any image of bytes
     pub value-by : (now : List ℕ) → ((j : ℕ) → getD now j 0 < 256) → (j : ℕ) → ValueBy x (view d) from past (rawIn (tablesIn t) now g j) (means (tablesIn t) g (rawIn (tablesIn t) now g j))
@@ -107,12 +108,12 @@ module _ (x image : List ℕ) (base : ℕ) (lent work : List ℕ) (f : Fits x im
         by-conversion : ConvertedBy from past g → ValueBy x (view d) from past z (means (tablesIn t) g z)
         by-conversion (plain c b v a) =
             subst (ValueBy x (view d) from past z)
-            (sym (value-exact (length x) (length image) t (loaded.keeps-rule x image base lent work f k) g (loaded.group-below x image base lent work f k i l p) v now bytes j ∙ ap (λ (q : Coefficients). fraction q z) a))
+            (sym (value-exact (length x) (length image) t (loaded.keeps-rule x image setting lent work f k) g (loaded.group-below x image setting lent work f k i l p) v now bytes j ∙ ap (λ (q : Coefficients). fraction q z) a))
             (by-fraction c b)
         by-conversion (verbal s b r v a) =
-            by-table s (means (tablesIn t) g z) r (table-text x image base lent work f k s b z (means (tablesIn t) g z)
+            by-table s (means (tablesIn t) g z) r (table-text x image setting lent work f k s b z (means (tablesIn t) g z)
             (subst (λ (y : ℕ). TableSays (tablesIn t) y z (means (tablesIn t) g z)) a
-            (value-verbal (length x) (length image) t (loaded.keeps-rule x image base lent work f k) (f .text-fits) g (loaded.group-below x image base lent work f k i l p) v z)))
+            (value-verbal (length x) (length image) t (loaded.keeps-rule x image setting lent work f k) (f .text-fits) g (loaded.group-below x image setting lent work f k i l p) v z)))
 
     -- what a physical write to part p is asked by, where its conversion is not verbal
     pub asked-by : isTabVerb (tablesIn t) g ≡ false → (c : Coefficients) × CoefficientsBy x (view d) from past c × (asksBy (tablesIn t) g ≡ c)

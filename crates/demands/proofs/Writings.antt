@@ -1,4 +1,4 @@
--- THE SECOND DEMAND: "a physical write stores the whole number nearest to what the conversion asks, halves away from zero, or is refused", to an element of an
+-- THE SECOND DEMAND: "a physical write stores the whole number nearest to what the conversion asks, by the edition's rule on halves, or is refused", to an element of an
 -- accepted load, by the limits, the conversion, the data type and the mask that the description gives it.
 --     physical-stored     an accepted physical write
 use Prim.Native.Nat.{ℕ, _<_}
@@ -11,6 +11,7 @@ use Rattle.records.specs.Records.{count}
 use Rattle.rows.specs.Sections as records
 use Rattle.grammar.specs.Move.{view}
 use Rattle.objects.specs.Object.{layoutOf, needOf}
+use Rattle.tables.specs.declared.setting.Setting.{Setting}
 use Rattle.tables.specs.Form.{tablesIn}
 use Rattle.tables.specs.Group.{groupOf}
 use Rattle.keeps.specs.Stands.{Part, numberOf, needed}
@@ -22,22 +23,22 @@ use Rattle.demands.proofs.Standing.{part-held}
 use Rattle.demands.proofs.Meaning.{writes-nearest}
 use Rattle.demands.proofs.Valued.{asked-by}
 
-pub physical-stored : (x image : List ℕ) (base : ℕ) (lent work : List ℕ) (f : Fits x image base lent work) (k : Keeps x image base) (i : ℕ) → i < count (k .records) records.object → (p : Part)
-    → needed (needOf image base x (view (k .records)) i) p ≡ true → (c : Kept) → ((j : ℕ) → getD (c .image) j 0 < 256) → (j : ℕ) (s : List ℕ)
-    → writing (loaded.t x image base lent work f k) (length x) base c (request i (numberOf p) j (physicalText s)) .answer ≡ given tt
-    → Stored x (view (k .records)) i (layoutOf x (view (k .records)) i) p j s (loaded.t x image base lent work f k) (length x) base
-    (writing (loaded.t x image base lent work f k) (length x) base c (request i (numberOf p) j (physicalText s)) .left)
-physical-stored x image base lent work f k i l p e c b j s h =
-    let t = loaded.t x image base lent work f k in
-    let w = writes-nearest t (length x) base c i (numberOf p) j s b h in
+pub physical-stored : (x image : List ℕ) (setting : Setting) (lent work : List ℕ) (f : Fits x image setting lent work) (k : Keeps x image (setting .base)) (i : ℕ) → i < count (k .records) records.object → (p : Part)
+    → needed (needOf image (setting .base) x (view (k .records)) i) p ≡ true → (c : Kept) → ((j : ℕ) → getD (c .image) j 0 < 256) → (j : ℕ) (s : List ℕ)
+    → writing (loaded.t x image setting lent work f k) (length x) (setting .base) c (request i (numberOf p) j (physicalText s)) .answer ≡ given tt
+    → Stored (setting .edition) x (view (k .records)) i (layoutOf x (view (k .records)) i) p j s (loaded.t x image setting lent work f k) (length x) (setting .base)
+    (writing (loaded.t x image setting lent work f k) (length x) (setting .base) c (request i (numberOf p) j (physicalText s)) .left)
+physical-stored x image setting lent work f k i l p e c b j s h =
+    let t = loaded.t x image setting lent work f k in
+    let w = writes-nearest t (length x) (setting .base) c i (numberOf p) j s b h in
     let g = groupOf i (numberOf p) in
-    let a = asked-by x image base lent work f k i l p e (w .plain) in
-    let q = part-held x image base lent work f k i l p e in
+    let a = asked-by x image setting lent work f k i l p e (w .plain) in
+    let q = part-held x image setting lent work f k i l p e in
     record {
       raw = w .raw;
       coefficients = a .0;
       by = a .1;
-      nearest = rw (q .lower, q .upper, a .2, q .stands .type, q .masked) at (w .nearest);
+      nearest = rw (loaded.edition-of x image setting lent work f k, q .lower, q .upper, a .2, q .stands .type, q .masked) at (w .nearest);
       answer = readingOf (tablesIn t) g (w .raw);
       is-read = w .read-back;
       is-raw = refl;

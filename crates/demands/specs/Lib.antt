@@ -4,6 +4,7 @@ pub mod Leads
 pub mod Conversions
 pub mod Rules
 pub mod Nearest
+pub mod Editions
 pub mod Value
 pub mod Readings
 pub mod Writings

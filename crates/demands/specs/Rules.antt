@@ -3,6 +3,7 @@ use Prim.Native.Nat.{ℕ, _+_, _*_, _^_, _≤_, _<_}
 use mathlib.Core.Path.{_≡_}
 use mathlib.Core.List.{List}
 use mathlib.Core.Bool.{true, false}
+use mathlib.Core.Logic.{_⊎_}
 use lib.ListN.{length}
 use Rattle.number.specs.Most.{mostElements}
 use Rattle.records.specs.Records.{count, slot}
@@ -11,6 +12,8 @@ use Rattle.rows.specs.Slots.{bit-mask-seen, bit-mask}
 use Rattle.grammar.specs.Move.{View, view}
 use Rattle.cell.specs.Kind.{shapeOf}
 use Rattle.cell.specs.declared.kind.Shape.{Shape}
+use Rattle.convert.specs.Edition.{editionOne, editionTwo}
+use Rattle.tables.specs.declared.setting.Setting.{Setting}
 use Rattle.refer.specs.Refer.{referenceRows}
 use Rattle.refer.specs.declared.Row.{Row}
 use Rattle.place.specs.declared.walk.Places.{Places}
@@ -23,13 +26,14 @@ use Rattle.demands.specs.Conversions.{MethodKeeps}
 use Rattle.demands.specs.Placed.{ObjectPlaced}
 
 -- "At most 16 MiB of description, 1 MiB of image, base address plus image length 2^32"; "A table is too short (20) below its full capacity":
--- the tables take 36,617 cells, the work of a load 42,578
-pub record Fits (x image : List ℕ) (base : ℕ) (tables work : List ℕ) : Type 0 where
+-- the tables take 36,617 cells, the work of a load 42,578. "The load takes the edition, 1 or 2"
+pub record Fits (x image : List ℕ) (setting : Setting) (tables work : List ℕ) : Type 0 where
   pub text-fits : length x ≤ 2 ^ 24
   pub image-fits : length image ≤ 2 ^ 20
-  pub ends-below : base + length image ≤ 2 ^ 32
+  pub ends-below : setting .base + length image ≤ 2 ^ 32
   pub tables-fit : 36617 ≤ length tables
   pub work-fits : 42578 ≤ length work
+  pub an-edition : (setting .edition ≡ editionOne) ⊎ (setting .edition ≡ editionTwo)
 
 -- "BIT_MASK: unsigned types only, not zero, within the type."
 pub record MaskKeeps (t : Shape) (mask : ℕ) : Type 0 where

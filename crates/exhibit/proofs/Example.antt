@@ -5,6 +5,7 @@
 --     example-listed        the listing of its list
 use Prim.Native.Nat.{ℕ, _≤_}
 use mathlib.Core.Path.{_≡_, refl, _∙_, ap}
+use mathlib.Core.Logic.{inr}
 use mathlib.Core.List.{List}
 use native.Mathlib.Omega.{arith}
 use lib.Count.{trailingZeros}
@@ -67,26 +68,26 @@ use Rattle.listing.specs.Print.{physical, line, header}
 use Rattle.listing.specs.Listing.{columnsOf, printedLine, printedPart, printedBelow, printed}
 use Rattle.load.specs.Load.{described, Loaded, loaded}
 use Rattle.demands.specs.Rules.{Fits, Keeps}
-use Rattle.exhibit.specs.Example.{exampleText, exampleImage, exampleTables, exampleCells, exampleListing}
+use Rattle.exhibit.specs.Example.{exampleText, exampleSetting, exampleImage, exampleTables, exampleCells, exampleListing}
 use Rattle.demands.proofs.Accepting.{loaded-given, accepted-exactly}
 
-pub example-described : described exampleImage 0x1000 exampleText ≡ given exampleTables
+pub example-described : described exampleImage exampleSetting exampleText ≡ given exampleTables
 unfolding walk over isBlank isAllowed isLetter isDigit startsName inName startsNumber pairAt sameFor samePart lineEnd commentEnd blankAt tokenEnds nameEnd nameAt stringEnd stringAt runEnd numberAt isBegin isEnd markAt tokenAt nextToken inRun digitOf valueOn allDigits leading trailing wholeFrom wholeOf signs minus lowest made isExponent exponentSize pointMoved judgedDecimal movedDecimal pointed signedBy plainOf isE mantissa fromE withExponent decimalOf allSmall formed atMost soundMethod judgedMethod ratFunc linearOf word bytes same kindIn wordRows classOf classAt sections rows needed rowAt needAt allParams paramAt firstParam applied wrong keeping takenWhole takenPairs hasEntry takenEntry takenDecimal takenNumber findFrom takenNew takenName takenText taken rowFrom rowOf oneMore stands plainRow skips opens allMet ends item afterBegin afterEnd onPiece move readFrom start read referenceRows innerRows isFree leads failing leastFrom referred linearAt ratFuncAt coefficients convertsFrom shapes shapeOf maskRule number cell.rawOf rawAt wordFor alignment nextFrom aligned inside insert inOrder parts both apart apartFrom allApart distinct matching comesBefore counted soundLayout place.start startOf countStored countAt pointsOf within placeOne allPlaced placement bytesOf elementsStored allInside weighed judgedObject object.word isType part layoutAt measured layoutOf alignsOf firstOf groundOf axisPtsNeed blockNeed maskFits sharedPoints axisNeed curveNeed mapNeed characteristicNeed needOf judgeObject placesOf elementsOf names named turnsFrom turn judgeEach judgeAll rowsBelow typeOf whatOf methodNumber methodIn forbids build.limitCells meaning valuesWalk maskOf xPart yPart valuesPart knownOf groupsBelow conversionOf methodRow entriesEnd built described
 example-described = refl
 
 -- in tables of the least size and work that is long enough
-pub example-fits : (lent work : List ℕ) → length lent ≡ 36617 → 42578 ≤ length work → Fits exampleText exampleImage 0x1000 lent work
-example-fits lent work e h = record { text-fits = omega arith; image-fits = omega arith; ends-below = omega arith; tables-fit = omega arith; work-fits = h }
+pub example-fits : (lent work : List ℕ) → length lent ≡ 36617 → 42578 ≤ length work → Fits exampleText exampleImage exampleSetting lent work
+example-fits lent work e h = record { text-fits = omega arith; image-fits = omega arith; ends-below = omega arith; tables-fit = omega arith; work-fits = h; an-edition = inr refl }
 
 pub example-loaded : (lent work : List ℕ) → length lent ≡ 36617 → 42578 ≤ length work
-    → loaded exampleText exampleImage 0x1000 lent work ≡ record { answer = given tt; tables = exampleCells; work = replicate (length work) 0 }
+    → loaded exampleText exampleImage exampleSetting lent work ≡ record { answer = given tt; tables = exampleCells; work = replicate (length work) 0 }
 unfolding exampleCells
 example-loaded lent work e h =
-    loaded-given exampleText exampleImage 0x1000 lent work (example-fits lent work e h) exampleTables example-described
+    loaded-given exampleText exampleImage exampleSetting lent work (example-fits lent work e h) exampleTables example-described
     ∙ ap (λ (n : ℕ). record { answer = given tt; tables = encode tables-form.tableSections n exampleTables; work = replicate (length work) 0 }) e
 
-pub example-keeps : (lent work : List ℕ) → length lent ≡ 36617 → 42578 ≤ length work → Keeps exampleText exampleImage 0x1000
-example-keeps lent work e h = accepted-exactly exampleText exampleImage 0x1000 lent work .0 (ap (λ (r : Loaded). r .answer) (example-loaded lent work e h)) .1
+pub example-keeps : (lent work : List ℕ) → length lent ≡ 36617 → 42578 ≤ length work → Keeps exampleText exampleImage (exampleSetting .base)
+example-keeps lent work e h = accepted-exactly exampleText exampleImage exampleSetting lent work .0 (ap (λ (r : Loaded). r .answer) (example-loaded lent work e h)) .1
 
 -- the list made of it, printed
 pub example-listed : printed exampleText exampleCells (columnsOf (remade exampleCells (kept exampleImage (replicate 37 (pos 0)) (replicate 37 0) (replicate 37 (pos 0)) (replicate 37 (pos 0))))) ≡ exampleListing

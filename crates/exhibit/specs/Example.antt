@@ -6,7 +6,9 @@ use mathlib.Core.List.{List, [], _∷_, _++_}
 use lib.ListN.{replicate}
 use Rattle.text.specs.Bytes.{spelt}
 use Rattle.records.specs.Cells.{encode}
+use Rattle.convert.specs.Edition.{editionTwo}
 use Rattle.tables.specs.Form.{tableSections, groupWidth}
+use Rattle.tables.specs.declared.setting.Setting.{Setting}
 
 abbrev pub exampleText : List ℕ
 exampleText =
@@ -40,7 +42,11 @@ exampleText =
     ++ spelt "/end MODULE\n"
     ++ spelt "/end PROJECT"
 
--- 106 bytes from 0x1000 on
+-- what a load of it is told: its image stands from 0x1000 on, and it is of edition 2
+abbrev pub exampleSetting : Setting
+exampleSetting = record { base = 0x1000; edition = editionTwo }
+
+-- 106 bytes
 abbrev pub exampleImage : List ℕ
 exampleImage =
     -- the curve from 0x1001 on: three points, which are 10, 20 and 30, and its values 5, 6 and 7 ("P10")
@@ -64,7 +70,7 @@ exampleImage =
 abbrev pub exampleTables : List (List (List ℕ))
 exampleTables =
     -- head: edition, size mark, elements
-    ((0 ∷ 0 ∷ 37 ∷ []) ∷ [])
+    ((2 ∷ 0 ∷ 37 ∷ []) ∷ [])
     ∷ (
     -- an object: its name from and up to, what it is
     (1247 ∷ 1253 ∷ 15 ∷ [])

@@ -14,6 +14,7 @@ use numbers::told::load_number;
 use numbers::version::version_number;
 use readings::has_room;
 use readings::put_reading;
+use tables::setting::Setting;
 ghost use mathlib.Core.Path.{_≡_};
 ghost use lib.ListN.{length};
 ghost use Rattle.load.specs.Load.{loaded};
@@ -38,12 +39,13 @@ pub extern "C" fn obarsivel_load(
     text: &[u8],
     image: &[u8],
     base: u32,
+    edition: u32,
     tables: &mut [u64],
     work: &mut [u64],
 ) -> u64
-    ensures { λ r. ⌜ loadCall r (now (tables .exit)) (now (work .exit)) ≡ loadTold (loaded (now (text .entry)) (now (image .entry)) base (now (tables .entry)) (now (work .entry))) ⌝ }
+    ensures { λ r. ⌜ loadCall r (now (tables .exit)) (now (work .exit)) ≡ loadTold (loaded (now (text .entry)) (now (image .entry)) (record { base = base; edition = edition }) (now (tables .entry)) (now (work .entry))) ⌝ }
 {
-    load_number(load(text, image, base, tables, work))
+    load_number(load(text, image, Setting { base, edition }, tables, work))
 }
 
 // The number of the object that bears a name; −1 where none does, or −20, −22.

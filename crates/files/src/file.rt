@@ -3,6 +3,7 @@ use console::ending::Ending;
 use console::message::error_about;
 use console::sizes::WORD_ROOM;
 use console::sizes::front;
+use console::words::word_at;
 
 pub enum FileRead {
     Bytes(usize),
@@ -31,9 +32,9 @@ fn unreadable(error: i32, path: &[u8]) -> Ending {
 
 // Reads the file that argument i names into a buffer and answers how many bytes it has, as far as the buffer goes; or says an error.
 // (Asking for the argument clears the system's error number, so that one left after reading is the reading's.)
-pub fn read_file(i: usize, buffer: &mut [u8]) -> FileRead {
+pub fn read_file(i: u8, buffer: &mut [u8]) -> FileRead {
     let mut path = [0u8; WORD_ROOM];
-    let n = os::arg(i, &mut path);
+    let n = word_at(i, &mut path);
     let fd = os::open_read(front(&path, n));
     if fd < 0 {
         unreadable(os::errno(), front(&path, n));

@@ -26,6 +26,7 @@ use console::ending::Ending;
 use console::message::error_about;
 use console::sizes::WORD_ROOM;
 use console::sizes::front;
+use console::words::word_at;
 use libc::PATH_MAX;
 
 // The bits of a mode: that someone may write, and all that are set by hand.
@@ -222,6 +223,6 @@ fn is_done(r: Replaced, path: &[u8]) -> bool {
 // Replaces the image's file; an error is said, and then the file is as it was.
 pub fn is_kept(image: &[u8]) -> bool {
     let mut path = [0u8; WORD_ROOM];
-    let n = os::arg(IMAGE, &mut path);
+    let n = word_at(IMAGE, &mut path);
     is_done(replaced_at(front(&path, n), image), front(&path, n))
 }

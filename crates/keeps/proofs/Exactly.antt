@@ -35,6 +35,7 @@ use Rattle.objects.proofs.Each.{In, Stands, judge-all-each}
 use Rattle.objects.proofs.Totals.{counted, sumOf, sum-marked, turns-below, sum-none, total-is, total-most}
 use Rattle.facts.proofs.Texts.{isText, text-inside, text-some, reference-names}
 use Rattle.facts.proofs.Keeps.{read-keeps}
+use Rattle.tables.specs.declared.setting.Setting.{Setting}
 use Rattle.build.specs.Build.{built}
 use Rattle.build.proofs.BuiltLaws.{within-of}
 use Rattle.load.specs.Load.{described}
@@ -282,6 +283,7 @@ module _ (image : List ℕ) (base : ℕ) (x : List ℕ) where
         stood : (i : ℕ) (l : i < count d object) → Share image base x (view d) i (stands i l .used) (stands i l .standing)
         stood i l = share image base x (view d) i (stands i l .used) (stands i l .standing) (stands i l .is)
 
+module _ (image : List ℕ) (setting : Setting) (x : List ℕ) where
   -- the stages of a load that gave D
   pub record Drawn (D : List (List (List ℕ))) : Type 0 where
     pub records : List (List (List ℕ))
@@ -289,16 +291,16 @@ module _ (image : List ℕ) (base : ℕ) (x : List ℕ) where
     pub is-read : read x ≡ given records
     pub refers : referred x (view records) ≡ given tt
     pub converts-are : converts (view records) ≡ given tt
-    pub judged : judgeAll image base x (view records) ≡ given elements
-    pub is-built : D ≡ built image base x (view records) elements
+    pub judged : judgeAll image (setting .base) x (view records) ≡ given elements
+    pub is-built : D ≡ built image setting x (view records) elements
 
-  pub drawn : (D : List (List (List ℕ))) → described image base x ≡ given D → Drawn D
+  pub drawn : (D : List (List (List ℕ))) → described image setting x ≡ given D → Drawn D
   unfolding described
   drawn D h =
       let a = went (read x) _ D h in
       let b = went (referred x (view (a .value))) _ D (a .on) in
       let c = went (converts (view (a .value))) _ D (b .on) in
-      let e = went (judgeAll image base x (view (a .value))) _ D (c .on) in
+      let e = went (judgeAll image (setting .base) x (view (a .value))) _ D (c .on) in
       record {
         records = a .value;
         elements = e .value;
@@ -306,27 +308,27 @@ module _ (image : List ℕ) (base : ℕ) (x : List ℕ) where
         refers = b .is;
         converts-are = c .is;
         judged = e .is;
-        is-built = let o : given (built image base x (view (a .value)) (e .value)) ≡ given D = e .on in cc;
+        is-built = let o : given (built image setting x (view (a .value)) (e .value)) ≡ given D = e .on in cc;
       }
 
-  pub accepted-is : (D : List (List (List ℕ))) → described image base x ≡ given D → Taken image base x D
+  pub accepted-is : (D : List (List (List ℕ))) → described image setting x ≡ given D → Taken image setting x D
   accepted-is D h =
       let s : Drawn D = drawn D h in
-      let t : s .elements ≡ allElements image base x (s .records) = total-is image base x (view (s .records)) (few (s .records) (s .is-read)) (s .elements) (s .judged) in
+      let t : s .elements ≡ allElements image (setting .base) x (s .records) = total-is image (setting .base) x (view (s .records)) (few image (setting .base) x (s .records) (s .is-read)) (s .elements) (s .judged) in
       record {
         records = s .records;
         is-read = s .is-read;
-        accepted = stages (s .records) (s .is-read) (s .refers) (s .converts-are) (s .elements) (s .judged);
-        is-built = s .is-built ∙ ap (built image base x (view (s .records))) t;
+        accepted = stages image (setting .base) x (s .records) (s .is-read) (s .refers) (s .converts-are) (s .elements) (s .judged);
+        is-built = s .is-built ∙ ap (built image setting x (view (s .records))) t;
       }
 
   -- the last stage of an accepted description
-  pub taken-judged : (D : List (List (List ℕ))) (t : Taken image base x D) → judgeAll image base x (view (t .records)) ≡ given (allElements image base x (t .records))
+  pub taken-judged : (D : List (List (List ℕ))) (t : Taken image setting x D) → judgeAll image (setting .base) x (view (t .records)) ≡ given (allElements image (setting .base) x (t .records))
   taken-judged D t =
-      judge-all-given image base x (view (t .records)) (λ i l. record { mask = t .accepted .masks i l; placed = t .accepted .places i l; inside = t .accepted .bytes i l }) (t .accepted .elements)
-      (few (t .records) (t .is-read))
+      judge-all-given image (setting .base) x (view (t .records)) (λ i l. record { mask = t .accepted .masks i l; placed = t .accepted .places i l; inside = t .accepted .bytes i l }) (t .accepted .elements)
+      (few image (setting .base) x (t .records) (t .is-read))
 
-  pub accepted-given : (D : List (List (List ℕ))) → Taken image base x D → described image base x ≡ given D
+  pub accepted-given : (D : List (List (List ℕ))) → Taken image setting x D → described image setting x ≡ given D
   unfolding described
   accepted-given D t =
       let r : referred x (view (t .records)) ≡ given tt = each-referred x (view (t .records)) (λ s m i l z y. t .accepted .references s m i l z) in

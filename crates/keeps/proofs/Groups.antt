@@ -32,6 +32,7 @@ use Rattle.place.specs.declared.rules.Need.{Need}
 use Rattle.place.specs.declared.walk.Places.{Places}
 use Rattle.objects.specs.Object.{part, layoutAt, measured, noEntry, layoutOf, layoutNumber, firstOf, groundOf, noAxis, axisAt, needOf, maskFits, placesOf, elementsOf}
 use Rattle.objects.proofs.Each.{find-below}
+use Rattle.tables.specs.declared.setting.Setting.{Setting}
 use Rattle.tables.specs.Form.{groupSection, methodSection, Tables, tablesOf, kind}
 use Rattle.tables.specs.Group as groups
 use Rattle.tables.specs.Rule.{groupRule}
@@ -195,9 +196,9 @@ share-few a b false c e h = absurd (false≢true e)
 
 -- ---- the groups
 
-module _ (image : List ℕ) (base : ℕ) (x : List ℕ) (d : List (List (List ℕ))) (n : ℕ) (k : Kept x d) where
+module _ (image : List ℕ) (setting : Setting) (x : List ℕ) (d : List (List (List ℕ))) (n : ℕ) (k : Kept x d) where
   abbrev T : Tables
-  T = tablesOf (built image base x (view d) n)
+  T = tablesOf (built image setting x (view d) n)
 
   -- group g keeps the rule, is stored or not, and has so many elements
   pub record Ruling (g : ℕ) (stored : Bool) (many : ℕ) : Type 0 where
@@ -208,116 +209,116 @@ module _ (image : List ℕ) (base : ℕ) (x : List ℕ) (d : List (List (List �
   w : Within (view d)
   w = within-of d (k .good)
 
-  module _ (i : ℕ) (l : i < count d records.object) (s : Stood image base x (view d) i) where
+  module _ (i : ℕ) (l : i < count d records.object) (s : Stood image (setting .base) x (view d) i) where
     -- a point in x and in y
     abbrev pub Pointing : Type 0
-    Pointing = (1 ≤ placesOf image base x (view d) i .cx) × (1 ≤ placesOf image base x (view d) i .cy)
+    Pointing = (1 ≤ placesOf image (setting .base) x (view d) i .cx) × (1 ≤ placesOf image (setting .base) x (view d) i .cy)
 
     methods-few : (q : Source) → methodIn x (view d) q ≤ T .counts methodSection
-    methods-few q = rw (count-methods image base x (view d) n w) (method-few x (view d) q)
+    methods-few q = rw (count-methods image setting x (view d) n w) (method-few x (view d) q)
 
-    pub x-ruling : Pointing → Ruling (i * 3) (needOf image base x (view d) i .x .stored) (cond (needOf image base x (view d) i .x .stored) (placesOf image base x (view d) i .cx) 0)
+    pub x-ruling : Pointing → Ruling (i * 3) (needOf image (setting .base) x (view d) i .x .stored) (cond (needOf image (setting .base) x (view d) i .x .stored) (placesOf image (setting .base) x (view d) i .cx) 0)
     unfolding xPart knownOf meaning limitCells groundOf
-    x-ruling o = turn (needOf image base x (view d) i .x .stored) refl (λ j. slot-x image base x (view d) n w i j l) where
-      turn : (b : Bool) → needOf image base x (view d) i .x .stored ≡ b → ((j : ℕ) → T .slots groupSection (i * 3) j ≡ getD (xRow image base x (view d) i) j 0)
-          → Ruling (i * 3) b (cond b (placesOf image base x (view d) i .cx) 0)
+    x-ruling o = turn (needOf image (setting .base) x (view d) i .x .stored) refl (λ j. slot-x image setting x (view d) n w i j l) where
+      turn : (b : Bool) → needOf image (setting .base) x (view d) i .x .stored ≡ b → ((j : ℕ) → T .slots groupSection (i * 3) j ≡ getD (xRow image (setting .base) x (view d) i) j 0)
+          → Ruling (i * 3) b (cond b (placesOf image (setting .base) x (view d) i .cx) 0)
       turn true e h₀ =
           let h = rw e at h₀ in
-          let c : placesOf image base x (view d) i .cx ≤ 256 = omega (arith, s .held .pointsX, need-modest image base x (view d) i .few-x e) in
-          let z : placesOf image base x (view d) i .cx * 1 ≡ placesOf image base x (view d) i .cx = omega arith in
+          let c : placesOf image (setting .base) x (view d) i .cx ≤ 256 = omega (arith, s .held .pointsX, need-modest image (setting .base) x (view d) i .few-x e) in
+          let z : placesOf image (setting .base) x (view d) i .cx * 1 ≡ placesOf image (setting .base) x (view d) i .cx = omega arith in
           record {
             keeps = part-keeps T (i * 3) (length image) _ _ _ _ _ _ _ _ _ _ _ _ _ _ _ _ _ h (record {
-              type = present-type (layoutOf x (view d) i .x) (layout-typed x (view d) i .x) (matched (needOf image base x (view d) i) (layoutOf x (view d) i) (s .matched) .x e);
+              type = present-type (layoutOf x (view d) i .x) (layout-typed x (view d) i .x) (matched (needOf image (setting .base) x (view d) i) (layoutOf x (view d) i) (s .matched) .x e);
               order = flag-least (firstOf (view d) i);
               some-x = o .0;
               few-x = omega arith;
               some-y = omega arith;
               few-y = omega arith;
-              bytes-in = rw z (inside-all image base (needOf image base x (view d) i) (layoutOf x (view d) i) (placesOf image base x (view d) i) (s .bytes-in) .x e .1);
+              bytes-in = rw z (inside-all image (setting .base) (needOf image (setting .base) x (view d) i) (layoutOf x (view d) i) (placesOf image (setting .base) x (view d) i) (s .bytes-in) .x e .1);
               role = axis-keeps T (i * 3) (length image) _ _ _ _ _ _ _ _ _ _ _ _ _ _ _ _ _ h (omega (arith, rest-0 i)) c refl (flag-least (eqb (slot d records.layout (layoutNumber x (view d) i) axis-pts-x-order) INDEX-DECR)) refl
-                  (counter-fine image base (placesOf image base x (view d) i .nx) (layoutOf x (view d) i .nx) (layout-typed x (view d) i .nx) (s .held .countX) (layoutOf x (view d) i .nx .present) refl);
+                  (counter-fine image (setting .base) (placesOf image (setting .base) x (view d) i .nx) (layoutOf x (view d) i .nx) (layout-typed x (view d) i .nx) (s .held .countX) (layoutOf x (view d) i .nx .present) refl);
               its-method = methods-few (xSource (view d) i);
               only = forbids-least (view d) (xSource (view d) i) false;
               limits = limits-keep T (i * 3) (length image) _ _ _ _ _ _ _ _ _ _ _ _ _ _ _ _ _ h (lower (view d) (xSource (view d) i)) (upper (view d) (xSource (view d) i)) refl refl refl refl refl refl (omega arith) (omega arith) (x-limits x d k i);
             });
-            stored-is = part-stored T (i * 3) (length image) _ _ _ _ _ _ _ _ _ _ _ _ _ _ _ _ _ h (present-type (layoutOf x (view d) i .x) (layout-typed x (view d) i .x) (matched (needOf image base x (view d) i) (layoutOf x (view d) i) (s .matched) .x e));
+            stored-is = part-stored T (i * 3) (length image) _ _ _ _ _ _ _ _ _ _ _ _ _ _ _ _ _ h (present-type (layoutOf x (view d) i .x) (layout-typed x (view d) i .x) (matched (needOf image (setting .base) x (view d) i) (layoutOf x (view d) i) (s .matched) .x e));
             many-is = part-elements T (i * 3) (length image) _ _ _ _ _ _ _ _ _ _ _ _ _ _ _ _ _ h (omega arith) (omega arith) ∙ z;
           }
       turn false e h₀ = let h = rw e at h₀ in record { keeps = none-keeps T (i * 3) (length image) h; stored-is = none-stored T (i * 3) (length image) h; many-is = none-elements T (i * 3) (length image) h }
 
-    pub y-ruling : Pointing → Ruling (i * 3 + 1) (needOf image base x (view d) i .y .stored) (cond (needOf image base x (view d) i .y .stored) (placesOf image base x (view d) i .cy) 0)
+    pub y-ruling : Pointing → Ruling (i * 3 + 1) (needOf image (setting .base) x (view d) i .y .stored) (cond (needOf image (setting .base) x (view d) i .y .stored) (placesOf image (setting .base) x (view d) i .cy) 0)
     unfolding yPart knownOf meaning limitCells groundOf
-    y-ruling o = turn (needOf image base x (view d) i .y .stored) refl (λ j. slot-y image base x (view d) n w i j l) where
-      turn : (b : Bool) → needOf image base x (view d) i .y .stored ≡ b → ((j : ℕ) → T .slots groupSection (i * 3 + 1) j ≡ getD (yRow image base x (view d) i) j 0)
-          → Ruling (i * 3 + 1) b (cond b (placesOf image base x (view d) i .cy) 0)
+    y-ruling o = turn (needOf image (setting .base) x (view d) i .y .stored) refl (λ j. slot-y image setting x (view d) n w i j l) where
+      turn : (b : Bool) → needOf image (setting .base) x (view d) i .y .stored ≡ b → ((j : ℕ) → T .slots groupSection (i * 3 + 1) j ≡ getD (yRow image (setting .base) x (view d) i) j 0)
+          → Ruling (i * 3 + 1) b (cond b (placesOf image (setting .base) x (view d) i .cy) 0)
       turn true e h₀ =
           let h = rw e at h₀ in
-          let c : placesOf image base x (view d) i .cy ≤ 256 = omega (arith, s .held .pointsY, need-modest image base x (view d) i .few-y e) in
-          let z : placesOf image base x (view d) i .cy * 1 ≡ placesOf image base x (view d) i .cy = omega arith in
+          let c : placesOf image (setting .base) x (view d) i .cy ≤ 256 = omega (arith, s .held .pointsY, need-modest image (setting .base) x (view d) i .few-y e) in
+          let z : placesOf image (setting .base) x (view d) i .cy * 1 ≡ placesOf image (setting .base) x (view d) i .cy = omega arith in
           record {
             keeps = part-keeps T (i * 3 + 1) (length image) _ _ _ _ _ _ _ _ _ _ _ _ _ _ _ _ _ h (record {
-              type = present-type (layoutOf x (view d) i .y) (layout-typed x (view d) i .y) (matched (needOf image base x (view d) i) (layoutOf x (view d) i) (s .matched) .y e);
+              type = present-type (layoutOf x (view d) i .y) (layout-typed x (view d) i .y) (matched (needOf image (setting .base) x (view d) i) (layoutOf x (view d) i) (s .matched) .y e);
               order = flag-least (firstOf (view d) i);
               some-x = o .1;
               few-x = omega arith;
               some-y = omega arith;
               few-y = omega arith;
-              bytes-in = rw z (inside-all image base (needOf image base x (view d) i) (layoutOf x (view d) i) (placesOf image base x (view d) i) (s .bytes-in) .y e .1);
+              bytes-in = rw z (inside-all image (setting .base) (needOf image (setting .base) x (view d) i) (layoutOf x (view d) i) (placesOf image (setting .base) x (view d) i) (s .bytes-in) .y e .1);
               role = axis-keeps T (i * 3 + 1) (length image) _ _ _ _ _ _ _ _ _ _ _ _ _ _ _ _ _ h (omega (arith, rest-1 i)) c refl (flag-least (eqb (slot d records.layout (layoutNumber x (view d) i) axis-pts-y-order) INDEX-DECR)) refl
-                  (counter-fine image base (placesOf image base x (view d) i .ny) (layoutOf x (view d) i .ny) (layout-typed x (view d) i .ny) (s .held .countY) (layoutOf x (view d) i .ny .present) refl);
+                  (counter-fine image (setting .base) (placesOf image (setting .base) x (view d) i .ny) (layoutOf x (view d) i .ny) (layout-typed x (view d) i .ny) (s .held .countY) (layoutOf x (view d) i .ny .present) refl);
               its-method = methods-few (ofAxis (axisAt (view d) i 1));
               only = forbids-least (view d) (ofAxis (axisAt (view d) i 1)) false;
               limits = limits-keep T (i * 3 + 1) (length image) _ _ _ _ _ _ _ _ _ _ _ _ _ _ _ _ _ h (lower (view d) (ofAxis (axisAt (view d) i 1))) (upper (view d) (ofAxis (axisAt (view d) i 1))) refl refl refl refl refl refl (omega arith) (omega arith) (k .axisLimits (axisAt (view d) i 1));
             });
-            stored-is = part-stored T (i * 3 + 1) (length image) _ _ _ _ _ _ _ _ _ _ _ _ _ _ _ _ _ h (present-type (layoutOf x (view d) i .y) (layout-typed x (view d) i .y) (matched (needOf image base x (view d) i) (layoutOf x (view d) i) (s .matched) .y e));
+            stored-is = part-stored T (i * 3 + 1) (length image) _ _ _ _ _ _ _ _ _ _ _ _ _ _ _ _ _ h (present-type (layoutOf x (view d) i .y) (layout-typed x (view d) i .y) (matched (needOf image (setting .base) x (view d) i) (layoutOf x (view d) i) (s .matched) .y e));
             many-is = part-elements T (i * 3 + 1) (length image) _ _ _ _ _ _ _ _ _ _ _ _ _ _ _ _ _ h (omega arith) (omega arith) ∙ z;
           }
       turn false e h₀ = let h = rw e at h₀ in record { keeps = none-keeps T (i * 3 + 1) (length image) h; stored-is = none-stored T (i * 3 + 1) (length image) h; many-is = none-elements T (i * 3 + 1) (length image) h }
 
     -- values have at most 4,096 points in x and in y
-    pub few-points : needOf image base x (view d) i .values ≡ true → (placesOf image base x (view d) i .cx ≤ mostPoints) × (placesOf image base x (view d) i .cy ≤ mostPoints)
+    pub few-points : needOf image (setting .base) x (view d) i .values ≡ true → (placesOf image (setting .base) x (view d) i .cx ≤ mostPoints) × (placesOf image (setting .base) x (view d) i .cy ≤ mostPoints)
     unfolding elementsOf elementsStored
-    few-points e = by-row (need-modest image base x (view d) i .row) where
-      elements-few : cond (needOf image base x (view d) i .x .stored) (placesOf image base x (view d) i .cx) 0 + cond (needOf image base x (view d) i .y .stored) (placesOf image base x (view d) i .cy) 0
-          + cond (needOf image base x (view d) i .values) (placesOf image base x (view d) i .cx * placesOf image base x (view d) i .cy) 0 ≤ mostElements
+    few-points e = by-row (need-modest image (setting .base) x (view d) i .row) where
+      elements-few : cond (needOf image (setting .base) x (view d) i .x .stored) (placesOf image (setting .base) x (view d) i .cx) 0 + cond (needOf image (setting .base) x (view d) i .y .stored) (placesOf image (setting .base) x (view d) i .cy) 0
+          + cond (needOf image (setting .base) x (view d) i .values) (placesOf image (setting .base) x (view d) i .cx * placesOf image (setting .base) x (view d) i .cy) 0 ≤ mostElements
       elements-few = s .few
 
-      all-few : placesOf image base x (view d) i .cx * placesOf image base x (view d) i .cy ≤ mostElements
-      all-few = share-few (cond (needOf image base x (view d) i .x .stored) (placesOf image base x (view d) i .cx) 0) (cond (needOf image base x (view d) i .y .stored) (placesOf image base x (view d) i .cy) 0) (needOf image base x (view d) i .values)
-          (placesOf image base x (view d) i .cx * placesOf image base x (view d) i .cy) e elements-few
+      all-few : placesOf image (setting .base) x (view d) i .cx * placesOf image (setting .base) x (view d) i .cy ≤ mostElements
+      all-few = share-few (cond (needOf image (setting .base) x (view d) i .x .stored) (placesOf image (setting .base) x (view d) i .cx) 0) (cond (needOf image (setting .base) x (view d) i .y .stored) (placesOf image (setting .base) x (view d) i .cy) 0) (needOf image (setting .base) x (view d) i .values)
+          (placesOf image (setting .base) x (view d) i .cx * placesOf image (setting .base) x (view d) i .cy) e elements-few
 
-      by-row : (needOf image base x (view d) i .y ≡ noAxis) ⊎ ((needOf image base x (view d) i .x .most ≤ 256) × (needOf image base x (view d) i .y .most ≤ 256))
-          → (placesOf image base x (view d) i .cx ≤ mostPoints) × (placesOf image base x (view d) i .cy ≤ mostPoints)
+      by-row : (needOf image (setting .base) x (view d) i .y ≡ noAxis) ⊎ ((needOf image (setting .base) x (view d) i .x .most ≤ 256) × (needOf image (setting .base) x (view d) i .y .most ≤ 256))
+          → (placesOf image (setting .base) x (view d) i .cx ≤ mostPoints) × (placesOf image (setting .base) x (view d) i .cy ≤ mostPoints)
       by-row (inl q) =
-          let o : 1 ≤ placesOf image base x (view d) i .cy = s .some-y (one-point (needOf image base x (view d) i .y) q) in
-          let p : placesOf image base x (view d) i .cx * 1 ≤ placesOf image base x (view d) i .cx * placesOf image base x (view d) i .cy = mul-le-mul-left (placesOf image base x (view d) i .cx) o in
-          let r : needOf image base x (view d) i .y .most ≡ 1 = ap (λ (a : Axis). a .most) q in
+          let o : 1 ≤ placesOf image (setting .base) x (view d) i .cy = s .some-y (one-point (needOf image (setting .base) x (view d) i .y) q) in
+          let p : placesOf image (setting .base) x (view d) i .cx * 1 ≤ placesOf image (setting .base) x (view d) i .cx * placesOf image (setting .base) x (view d) i .cy = mul-le-mul-left (placesOf image (setting .base) x (view d) i .cx) o in
+          let r : needOf image (setting .base) x (view d) i .y .most ≡ 1 = ap (λ (a : Axis). a .most) q in
           (omega (arith, all-few), omega (arith, s .held .pointsY))
       by-row (inr q) = (omega (arith, s .held .pointsX), omega (arith, s .held .pointsY))
 
-    pub values-ruling : Pointing → Ruling (i * 3 + 2) (needOf image base x (view d) i .values) (cond (needOf image base x (view d) i .values) (placesOf image base x (view d) i .cx * placesOf image base x (view d) i .cy) 0)
+    pub values-ruling : Pointing → Ruling (i * 3 + 2) (needOf image (setting .base) x (view d) i .values) (cond (needOf image (setting .base) x (view d) i .values) (placesOf image (setting .base) x (view d) i .cx * placesOf image (setting .base) x (view d) i .cy) 0)
     unfolding valuesPart knownOf meaning limitCells
-    values-ruling o = turn (needOf image base x (view d) i .values) refl (λ j. slot-values image base x (view d) n w i j l) where
-      turn : (b : Bool) → needOf image base x (view d) i .values ≡ b → ((j : ℕ) → T .slots groupSection (i * 3 + 2) j ≡ getD (valuesRow image base x (view d) i) j 0)
-          → Ruling (i * 3 + 2) b (cond b (placesOf image base x (view d) i .cx * placesOf image base x (view d) i .cy) 0)
+    values-ruling o = turn (needOf image (setting .base) x (view d) i .values) refl (λ j. slot-values image setting x (view d) n w i j l) where
+      turn : (b : Bool) → needOf image (setting .base) x (view d) i .values ≡ b → ((j : ℕ) → T .slots groupSection (i * 3 + 2) j ≡ getD (valuesRow image (setting .base) x (view d) i) j 0)
+          → Ruling (i * 3 + 2) b (cond b (placesOf image (setting .base) x (view d) i .cx * placesOf image (setting .base) x (view d) i .cy) 0)
       turn true e h₀ =
           let h = rw e at h₀ in
           let c = few-points e in
           record {
             keeps = part-keeps T (i * 3 + 2) (length image) _ _ _ _ _ _ _ _ _ _ _ _ _ _ _ _ _ h (record {
-              type = present-type (layoutOf x (view d) i .values) (layout-typed x (view d) i .values) (matched (needOf image base x (view d) i) (layoutOf x (view d) i) (s .matched) .values e);
+              type = present-type (layoutOf x (view d) i .values) (layout-typed x (view d) i .values) (matched (needOf image (setting .base) x (view d) i) (layoutOf x (view d) i) (s .matched) .values e);
               order = flag-least (firstOf (view d) i);
               some-x = o .0;
               few-x = c .0;
               some-y = o .1;
               few-y = c .1;
-              bytes-in = inside-all image base (needOf image base x (view d) i) (layoutOf x (view d) i) (placesOf image base x (view d) i) (s .bytes-in) .values e .1;
+              bytes-in = inside-all image (setting .base) (needOf image (setting .base) x (view d) i) (layoutOf x (view d) i) (placesOf image (setting .base) x (view d) i) (s .bytes-in) .values e .1;
               role = values-keep T (i * 3 + 2) (length image) _ _ _ _ _ _ _ _ _ _ _ _ _ _ _ _ _ h (omega (arith, rest-2 i)) (walk-values (view d) i (layoutNumber x (view d) i)) (mask-fine x (view d) i (s .masked)) refl refl;
               its-method = methods-few (ofObject i);
               only = forbids-least (view d) (ofObject i) (eqb (whatOf (view d) i) MEASUREMENT);
               limits = limits-keep T (i * 3 + 2) (length image) _ _ _ _ _ _ _ _ _ _ _ _ _ _ _ _ _ h (lower (view d) (ofObject i)) (upper (view d) (ofObject i)) refl refl refl refl refl refl (omega arith) (omega arith) (k .limits i);
             });
-            stored-is = part-stored T (i * 3 + 2) (length image) _ _ _ _ _ _ _ _ _ _ _ _ _ _ _ _ _ h (present-type (layoutOf x (view d) i .values) (layout-typed x (view d) i .values) (matched (needOf image base x (view d) i) (layoutOf x (view d) i) (s .matched) .values e));
+            stored-is = part-stored T (i * 3 + 2) (length image) _ _ _ _ _ _ _ _ _ _ _ _ _ _ _ _ _ h (present-type (layoutOf x (view d) i .values) (layout-typed x (view d) i .values) (matched (needOf image (setting .base) x (view d) i) (layoutOf x (view d) i) (s .matched) .values e));
             many-is = part-elements T (i * 3 + 2) (length image) _ _ _ _ _ _ _ _ _ _ _ _ _ _ _ _ _ h (c .0) (c .1);
           }
       turn false e h₀ = let h = rw e at h₀ in record { keeps = none-keeps T (i * 3 + 2) (length image) h; stored-is = none-stored T (i * 3 + 2) (length image) h; many-is = none-elements T (i * 3 + 2) (length image) h }

@@ -17,6 +17,7 @@ use Rattle.facts.specs.Facts.{Kept}
 use Rattle.place.specs.declared.rules.Axis.{Axis}
 use Rattle.place.specs.declared.rules.Need.{Need}
 use Rattle.objects.specs.Object.{noAxis, valueNeed, axisPtsNeed, blockNeed, curveNeed, mapNeed, characteristicNeed, needOf, placesOf}
+use Rattle.tables.specs.declared.setting.Setting.{Setting}
 use Rattle.tables.specs.Form.{objectSection, groupSection, Tables, tablesOf, kind, x, y}
 use Rattle.tables.specs.Rule.{axisPtsRule, blockRule, valueRule, measurementRule, curveRule, mapRule, partsRule, objectRule}
 use Rattle.build.specs.Build.{limitCells, forbids, meaning, typeOf, whatOf, ofObject, valuesPart, valuesRow, knownOf, built}
@@ -70,32 +71,32 @@ module _ (image : List ℕ) (base : ℕ) (t : List ℕ) (v : View) (i : ℕ) whe
 stored-not : (b : Bool) → b ≡ false → not b ≡ true
 stored-not b e = rw e
 
-module _ (image : List ℕ) (base : ℕ) (t : List ℕ) (d : List (List (List ℕ))) (n : ℕ) (k : Kept t d) where
+module _ (image : List ℕ) (setting : Setting) (t : List ℕ) (d : List (List (List ℕ))) (n : ℕ) (k : Kept t d) where
   abbrev T : Tables
-  T = tablesOf (built image base t (view d) n)
+  T = tablesOf (built image setting t (view d) n)
 
   w : Within (view d)
   w = within-of d (k .good)
 
-  module _ (i : ℕ) (l : i < count d records.object) (s : Stood image base t (view d) i) (o : Pointing image base t d n k i l s) where
+  module _ (i : ℕ) (l : i < count d records.object) (s : Stood image (setting .base) t (view d) i) (o : Pointing image setting t d n k i l s) where
     abbrev need : Need
-    need = needOf image base t (view d) i
+    need = needOf image (setting .base) t (view d) i
 
     x-stored : not (eqb (kind T (i * 3 + 0)) 0) ≡ need .x .stored
-    x-stored = let z : i * 3 + 0 ≡ i * 3 = omega arith in rw z (x-ruling image base t d n k i l s o .stored-is)
+    x-stored = let z : i * 3 + 0 ≡ i * 3 = omega arith in rw z (x-ruling image setting t d n k i l s o .stored-is)
 
     y-stored : not (eqb (kind T (i * 3 + 1)) 0) ≡ need .y .stored
-    y-stored = y-ruling image base t d n k i l s o .stored-is
+    y-stored = y-ruling image setting t d n k i l s o .stored-is
 
     values-stored : not (eqb (kind T (i * 3 + 2)) 0) ≡ need .values
-    values-stored = values-ruling image base t d n k i l s o .stored-is
+    values-stored = values-ruling image setting t d n k i l s o .stored-is
 
     -- points in x and y, and whether writing is forbidden
-    values-slots : need .values ≡ true → (T .slots groupSection (i * 3 + 2) 3 ≡ placesOf image base t (view d) i .cx) × (T .slots groupSection (i * 3 + 2) 4 ≡ placesOf image base t (view d) i .cy)
+    values-slots : need .values ≡ true → (T .slots groupSection (i * 3 + 2) 3 ≡ placesOf image (setting .base) t (view d) i .cx) × (T .slots groupSection (i * 3 + 2) 4 ≡ placesOf image (setting .base) t (view d) i .cy)
         × (T .slots groupSection (i * 3 + 2) 10 ≡ forbids (view d) (ofObject i) (eqb (whatOf (view d) i) MEASUREMENT))
     unfolding valuesPart knownOf meaning limitCells
     values-slots e =
-        let h : (j : ℕ) → T .slots groupSection (i * 3 + 2) j ≡ getD (valuesRow image base t (view d) i) j 0 = λ j. slot-values image base t (view d) n w i j l in
+        let h : (j : ℕ) → T .slots groupSection (i * 3 + 2) j ≡ getD (valuesRow image (setting .base) t (view d) i) j 0 = λ j. slot-values image setting t (view d) n w i j l in
         (rw e at (h 3), rw e at (h 4), rw e at (h 10))
 
     -- where there is no axis there is one point
@@ -143,7 +144,7 @@ module _ (image : List ℕ) (base : ℕ) (t : List ℕ) (d : List (List (List �
 
     parts-keep : partsRule T i (whatOf (view d) i) ≡ true
     unfolding partsRule
-    parts-keep = by-suit (suits image base t (view d) i) where
+    parts-keep = by-suit (suits image (setting .base) t (view d) i) where
       by-single : (whatOf (view d) i ≡ VALUE) ⊎ (whatOf (view d) i ≡ MEASUREMENT) → need ≡ valueNeed → partsRule T i (whatOf (view d) i) ≡ true
       by-single (inl e) f = rw e (value-keeps f)
       by-single (inr e) f = rw e (measurement-keeps e f)
@@ -158,6 +159,6 @@ module _ (image : List ℕ) (base : ℕ) (t : List ℕ) (d : List (List (List �
     pub object-keeps : objectRule T (length t) i ≡ true
     unfolding objectRule
     object-keeps =
-        let e = slot-object image base t (view d) n w i in
+        let e = slot-object image setting t (view d) n w i in
         and (text-keeps (length t) (slot d records.object i own-name) (slot d records.object i own-name-past) (T .slots objectSection i 0) (T .slots objectSection i 1) (e 0 l) (e 1 l) (k .names records.object i refl))
         (ap (λ (m : ℕ). partsRule T i m) (e 2 l) ∙ parts-keep)

@@ -18,6 +18,8 @@ use Rattle.grammar.specs.Read.{move, readFrom, read}
 use Rattle.refer.specs.Refer.{referred}
 use Rattle.methods.specs.Methods.{converts}
 use Rattle.objects.specs.Stage.{judgeEach, turnsFrom, judgeAll}
+use Rattle.convert.specs.Edition.{isEdition}
+use Rattle.tables.specs.declared.setting.Setting.{Setting}
 use Rattle.build.specs.Build.{built}
 use Rattle.tables.specs.Sizes.{sizesFit}
 use Rattle.load.specs.Load.{described, loaded}
@@ -27,13 +29,14 @@ unfolding read readFrom move nextToken tokenAt blankAt over walk
 empty-read = refl
 
 -- "Empty text: 3 at place 0", and the lent cells are zero
-pub empty-text : (image : List ℕ) (base : ℕ) (tables work : List ℕ) → sizesFit 0 (length image) base (length tables) ≡ true → leb (room records.sections) (length work) ≡ true
-    → loaded [] image base tables work ≡ record { answer = refused 3 0; tables = replicate (length tables) 0; work = replicate (length work) 0 }
+pub empty-text : (image : List ℕ) (setting : Setting) (tables work : List ℕ) → sizesFit 0 (length image) (setting .base) (length tables) ≡ true → leb (room records.sections) (length work) ≡ true
+    → isEdition (setting .edition) ≡ true
+    → loaded [] image setting tables work ≡ record { answer = refused 3 0; tables = replicate (length tables) 0; work = replicate (length work) 0 }
 unfolding loaded described
-empty-text image base tables work f w = rw (f, w, empty-read)
+empty-text image setting tables work f w v = rw (f, w, v, empty-read)
 
 -- "No objects: accepted, empty list": with any image, and the tables' element total is 0
-pub no-objects : (image : List ℕ) (base : ℕ) (x : List ℕ) (d : List (List (List ℕ))) → read x ≡ given d → count d object ≡ 0 → referred x (view d) ≡ given tt → converts (view d) ≡ given tt
-    → described image base x ≡ given (built image base x (view d) 0)
+pub no-objects : (image : List ℕ) (setting : Setting) (x : List ℕ) (d : List (List (List ℕ))) → read x ≡ given d → count d object ≡ 0 → referred x (view d) ≡ given tt → converts (view d) ≡ given tt
+    → described image setting x ≡ given (built image setting x (view d) 0)
 unfolding described judgeAll judgeEach turnsFrom
-no-objects image base x d r n l c = rw (r, l, c, n)
+no-objects image setting x d r n l c = rw (r, l, c, n)

@@ -29,6 +29,7 @@ use Rattle.methods.specs.Methods as methods
 use Rattle.methods.specs.Methods.{decimalAt, coefficients, convertsFrom, converts}
 use Rattle.facts.specs.Facts.{Inside, Kept}
 use Rattle.objects.proofs.Each.{find-below}
+use Rattle.tables.specs.declared.setting.Setting.{Setting}
 use Rattle.tables.specs.Form as form
 use Rattle.tables.specs.Form.{methodSection, tableSection, entrySection, Tables, tablesOf, coefficient}
 use Rattle.number.specs.Below.{anyBelow}
@@ -192,21 +193,21 @@ module _ (T : Tables) (i : ℕ) where
         let d : isFraction (T .slots methodSection i 0) ≡ true = rw (h 0) (conversion-kind .0) in
         rw c (and (and (and (and d signs-keep) (rw (coefficients-are e) e)) (rw (coefficients-are e, h 0) f)) (eq-eqb (T .slots methodSection i 9) 0 (h 9)))
 
-module _ (image : List ℕ) (base : ℕ) (x : List ℕ) (d : List (List (List ℕ))) (n : ℕ) (k : Kept x d) where
+module _ (image : List ℕ) (setting : Setting) (x : List ℕ) (d : List (List (List ℕ))) (n : ℕ) (k : Kept x d) where
   abbrev T : Tables
-  T = tablesOf (built image base x (view d) n)
+  T = tablesOf (built image setting x (view d) n)
 
   w : Within (view d)
   w = within-of d (k .good)
 
   pub method-keeps : converts (view d) ≡ text.given tt → (i : ℕ) → i < count d records.method → methodRule T i ≡ true
   unfolding methodRow
-  method-keeps c i h = row (λ j. slot-method image base x (view d) n w i j h) where
+  method-keeps c i h = row (λ j. slot-method image setting x (view d) n w i j h) where
     t : ℕ
     t = tableNumber x (view d) i
 
     few : t ≤ T .counts tableSection
-    few = rw (count-tables image base x (view d) n w) (find-below x (view d) records.table (slot d records.method i compu-tab-ref) (slot d records.method i compu-tab-ref-past))
+    few = rw (count-tables image setting x (view d) n w) (find-below x (view d) records.table (slot d records.method i compu-tab-ref) (slot d records.method i compu-tab-ref-past))
 
     verbal : (eqb (slot d records.method i conversion-type) TAB-VERB && not (eqb t 0)) ≡ true → Holds T i (verbalRow t) → methodRule T i ≡ true
     verbal e q = verbal-keeps T i t q (eqb-false t 0 (not-true (eqb t 0) (and-right (eqb (slot d records.method i conversion-type) TAB-VERB) (not (eqb t 0)) e))) few
@@ -220,9 +221,9 @@ module _ (image : List ℕ) (base : ℕ) (x : List ℕ) (d : List (List (List �
   pub table-keeps : (i : ℕ) → i < count d records.table → tableRule T (length x) i ≡ true
   unfolding tableRule entriesEnd
   table-keeps i h =
-      let e = slot-table image base x (view d) n w i in
+      let e = slot-table image setting x (view d) n w i in
       let s : slot d records.table i first-held + (entriesEnd (view d) i - slot d records.table i first-held) ≤ count d records.entry = fit in
-      and (le-leb (T .slots tableSection i 0 + T .slots tableSection i 1) (T .counts entrySection) (omega (arith, e 0 h, e 1 h, count-entries image base x (view d) n w)))
+      and (le-leb (T .slots tableSection i 0 + T .slots tableSection i 1) (T .counts entrySection) (omega (arith, e 0 h, e 1 h, count-entries image setting x (view d) n w)))
       (text-keeps (length x) (slot d records.table i default-value) (slot d records.table i default-value-past) (T .slots tableSection i 2) (T .slots tableSection i 3) (e 2 h) (e 3 h) (k .defaults i))
     where
       end : entriesEnd (view d) i ≤ count d records.entry
@@ -234,6 +235,6 @@ module _ (image : List ℕ) (base : ℕ) (x : List ℕ) (d : List (List (List �
   pub entry-keeps : (i : ℕ) → i < count d records.entry → entryRule T (length x) i ≡ true
   unfolding entryRule
   entry-keeps i h =
-      let e = slot-entry image base x (view d) n w i in
+      let e = slot-entry image setting x (view d) n w i in
       and (le-leb (T .slots entrySection i 0) 1 (omega (arith, e 0 h)))
       (text-keeps (length x) (slot d records.entry i entry-text) (slot d records.entry i entry-text-past) (T .slots entrySection i 2) (T .slots entrySection i 3) (e 2 h) (e 3 h) (k .texts i))

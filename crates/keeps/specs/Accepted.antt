@@ -20,6 +20,7 @@ use Rattle.place.specs.Judge.{allInside}
 use Rattle.place.specs.Walk.{placement}
 use Rattle.objects.specs.Object.{layoutOf, groundOf, needOf, maskFits, placesOf, elementsOf}
 use Rattle.number.specs.Below.{sumBelow}
+use Rattle.tables.specs.declared.setting.Setting.{Setting}
 use Rattle.build.specs.Build.{built}
 
 -- how many elements all objects have
@@ -43,8 +44,8 @@ pub record Accepted (image : List ℕ) (base : ℕ) (x : List ℕ) (d : List (Li
   pub elements : allElements image base x d ≤ mostElements
 
 -- the description x is read and accepted, and D are the tables' records of it
-pub record Taken (image : List ℕ) (base : ℕ) (x : List ℕ) (D : List (List (List ℕ))) : Type 0 where
+pub record Taken (image : List ℕ) (setting : Setting) (x : List ℕ) (D : List (List (List ℕ))) : Type 0 where
   pub records : List (List (List ℕ))
   pub is-read : read x ≡ given records
-  pub accepted : Accepted image base x records
-  pub is-built : D ≡ built image base x (view records) (allElements image base x records)
+  pub accepted : Accepted image (setting .base) x records
+  pub is-built : D ≡ built image setting x (view records) (allElements image (setting .base) x records)

@@ -19,8 +19,9 @@ use Rattle.cell.specs.Bytes.{storedAt}
 use Rattle.cell.proofs.Shapes.{bytes-le}
 use Rattle.cell.proofs.Laws as cell-laws
 use Rattle.convert.specs.Asked.{askedRaw}
+use Rattle.convert.specs.Edition.{halvesOf}
 use Rattle.convert.proofs.Laws.{asked-stores}
-use Rattle.tables.specs.Form.{objectSection, groupSection, methodSection, Tables, tablesIn, kind, first, mask, walk, x, y, counter, methodOf, limit}
+use Rattle.tables.specs.Form.{objectSection, groupSection, methodSection, Tables, tablesIn, edition, kind, first, mask, walk, x, y, counter, methodOf, limit}
 use Rattle.number.specs.Below.{sumBelow}
 use Rattle.tables.specs.Group.{elements, bytes, placeOf}
 use Rattle.tables.specs.Rule.{isNoPart, pointsRule, counterRule, axisRule, valuesRule, limitsRule, bytesRule, roleRule, partRule, groupRule, keepsRule}
@@ -151,10 +152,10 @@ wanted-fits T g (rawNumber y) z = go (fitsRaw (shapeOf (kind T g)) (mask T g) y)
     go false e h = absurd (never 18 z h)
 wanted-fits T g (physicalText s) z = go (isTabVerb T g)
   where
-    go : (b : Bool) → cond (not b) (askedRaw (limit T g 11) (limit T g 14) (asksBy T g) (shapeOf (kind T g)) (mask T g) s) (refused 15) ≡ given z
+    go : (b : Bool) → cond (not b) (askedRaw (halvesOf (edition T)) (limit T g 11) (limit T g 14) (asksBy T g) (shapeOf (kind T g)) (mask T g) s) (refused 15) ≡ given z
         → fitsRaw (shapeOf (kind T g)) (mask T g) z ≡ true
     go true h = absurd (never 15 z h)
-    go false h = asked-stores (limit T g 11) (limit T g 14) (asksBy T g) (shapeOf (kind T g)) (mask T g) s z h .fits
+    go false h = asked-stores (halvesOf (edition T)) (limit T g 11) (limit T g 14) (asksBy T g) (shapeOf (kind T g)) (mask T g) s z h .fits
 
 -- a raw write stores the number that is asked
 pub wanted-raw : (T : Tables) (g : ℕ) (y z : ℤ) → wantedRaw T g (rawNumber y) ≡ given z → y ≡ z

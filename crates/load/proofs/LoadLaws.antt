@@ -31,7 +31,9 @@ use Rattle.objects.specs.Stage.{judgeAll, toldTurn}
 use Rattle.objects.specs.declared.stage.Turn.{Turn}
 use Rattle.objects.specs.declared.stage.Turn.the-variants as turn
 use Rattle.build.specs.Build.{built}
+use Rattle.convert.specs.Edition.{isEdition}
 use Rattle.tables.specs.Form.{tableSections}
+use Rattle.tables.specs.declared.setting.Setting.{Setting}
 use Rattle.tables.specs.Sizes.{sizesFit}
 use Rattle.load.specs.Load.{described, Loaded, left, loaded, loadedOf, judgedLast, judgedAll, filling, filled, filledOf}
 use Rattle.load.specs.declared.LoadAnswer.{LoadAnswer}
@@ -67,19 +69,19 @@ module _ (image : List ℕ) (base : ℕ) (x : List ℕ) (v : View) where
         let e : refused n m ≡ referred x v = ap refers.toldReference (sym y) ∙ p in
         ap (λ (a : Answer (Unit {0})). with a (λ _. judgedLast image base x v)) e
 
-  -- r is what `judge_records` gave, and t the tables
-  module _ (r : Turn) (p : toldTurn r ≡ judgedAll image base x v) (t : List ℕ) where
-    pub fill-accepted : (n : ℕ) (w : List ℕ) → r ≡ turn.Total n → w ≡ encode tableSections (length t) (built image base x v n) → accepted w ≡ filled (length t) (filling image base x v)
-    unfolding filling
-    fill-accepted n w y q =
-        let e : given n ≡ judgedAll image base x v = ap toldTurn (sym y) ∙ p in
-        ap accepted q ∙ ap (λ (a : Answer ℕ). filled (length t) (with a (λ k. given (built image base x v k)))) e
+-- r is what `judge_records` gave, and t the tables
+module _ (image : List ℕ) (s : Setting) (x : List ℕ) (v : View) (r : Turn) (p : toldTurn r ≡ judgedAll image (s .base) x v) (t : List ℕ) where
+  pub fill-accepted : (n : ℕ) (w : List ℕ) → r ≡ turn.Total n → w ≡ encode tableSections (length t) (built image s x v n) → accepted w ≡ filled (length t) (filling image s x v)
+  unfolding filling
+  fill-accepted n w y q =
+      let e : given n ≡ judgedAll image (s .base) x v = ap toldTurn (sym y) ∙ p in
+      ap accepted q ∙ ap (λ (a : Answer ℕ). filled (length t) (with a (λ k. given (built image s x v k)))) e
 
-    pub fill-refused : (n m : ℕ) → r ≡ turn.Refused n m → t ≡ replicate (length t) 0 → refusing n m t ≡ filled (length t) (filling image base x v)
-    unfolding filling
-    fill-refused n m y q =
-        let e : refused n m ≡ judgedAll image base x v = ap toldTurn (sym y) ∙ p in
-        ap (refusing n m) q ∙ ap (λ (a : Answer ℕ). filled (length t) (with a (λ k. given (built image base x v k)))) e
+  pub fill-refused : (n m : ℕ) → r ≡ turn.Refused n m → t ≡ replicate (length t) 0 → refusing n m t ≡ filled (length t) (filling image s x v)
+  unfolding filling
+  fill-refused n m y q =
+      let e : refused n m ≡ judgedAll image (s .base) x v = ap toldTurn (sym y) ∙ p in
+      ap (refusing n m) q ∙ ap (λ (a : Answer ℕ). filled (length t) (with a (λ k. given (built image s x v k)))) e
 
 pub ruleset lasts = (last-fine, last-refused, needs)
 
@@ -89,21 +91,21 @@ pub ruleset fills = (fill-accepted, fill-refused, needs)
 
 -- ---- the steps are the load
 
-module _ (image : List ℕ) (base : ℕ) (x : List ℕ) where
-  steps : (v : View) → filling image base x v ≡ with (referred x v) (λ _. with (converts v) (λ _. with (judgeAll image base x v) (λ n. given (built image base x v n))))
+module _ (image : List ℕ) (s : Setting) (x : List ℕ) where
+  steps : (v : View) → filling image s x v ≡ with (referred x v) (λ _. with (converts v) (λ _. with (judgeAll image (s .base) x v) (λ n. given (built image s x v n))))
   unfolding filling judgedAll judgedLast
-  steps v = by-answers (referred x v) (converts v) (judgeAll image base x v) where
+  steps v = by-answers (referred x v) (converts v) (judgeAll image (s .base) x v) where
     by-answers : (a b : Answer (Unit {0})) (c : Answer ℕ)
-        → with (with a (λ _. with b (λ _. c))) (λ n. given (built image base x v n)) ≡ with a (λ _. with b (λ _. with c (λ n. given (built image base x v n))))
+        → with (with a (λ _. with b (λ _. c))) (λ n. given (built image s x v n)) ≡ with a (λ _. with b (λ _. with c (λ n. given (built image s x v n))))
     by-answers (given a) (given b) c = refl
     by-answers (given a) (refused n p) c = refl
     by-answers (refused n p) b c = refl
 
-  described-given : (d : List (List (List ℕ))) → read x ≡ given d → described image base x ≡ filling image base x (view d)
+  described-given : (d : List (List (List ℕ))) → read x ≡ given d → described image s x ≡ filling image s x (view d)
   unfolding described
   described-given d p = rw p (sym (steps (view d)))
 
-  described-refused : (n m : ℕ) → read x ≡ refused n m → described image base x ≡ refused n m
+  described-refused : (n m : ℕ) → read x ≡ refused n m → described image s x ≡ refused n m
   unfolding described
   described-refused n m p = rw p
 
@@ -124,31 +126,31 @@ with-work n k a t (refused i j) p = by-answer a p where
   by-answer (variant.Refused m l) q = ap (λ (o : Out). record { answer = o .answer; tables = o .cells; work = replicate k 0 }) q
 
 -- t₁ are the cleared tables; r is what `read` gave, and w₁ what it left
-module _ (image : List ℕ) (base : ℕ) (x t t₁ w w₁ : List ℕ) (h : room records.sections ≤ length w) (z : t₁ ≡ replicate (length t) 0) (r : answer.ReadAnswer) (p : outOf r w₁ ≡ readInto x w) where
+module _ (image : List ℕ) (s : Setting) (x t t₁ w w₁ : List ℕ) (h : room records.sections ≤ length w) (z : t₁ ≡ replicate (length t) 0) (r : answer.ReadAnswer) (p : outOf r w₁ ≡ readInto x w) where
   -- a is what `fill` gave, t₂ what it left, and w₂ is work, cleared
-  pub into-accepted : (a : LoadAnswer) (t₂ w₂ : List ℕ) → r ≡ ended.Accepted → filledOf a t₂ ≡ filled (length t₁) (filling image base x (viewIn w₁)) → w₂ ≡ replicate (length w₁) 0
-      → loadedOf a t₂ w₂ ≡ left (length t) (length w) (described image base x)
-  into-accepted a t₂ w₂ y q s = by-read (read x) refl (sym (ap (λ (k : answer.ReadAnswer). outOf k w₁) y) ∙ p ∙ into-is x w h) where
-    by-read : (b : Answer (List (List (List ℕ)))) → read x ≡ b → accepted w₁ ≡ reading.left (length w) b → loadedOf a t₂ w₂ ≡ left (length t) (length w) (described image base x)
+  pub into-accepted : (a : LoadAnswer) (t₂ w₂ : List ℕ) → r ≡ ended.Accepted → filledOf a t₂ ≡ filled (length t₁) (filling image s x (viewIn w₁)) → w₂ ≡ replicate (length w₁) 0
+      → loadedOf a t₂ w₂ ≡ left (length t) (length w) (described image s x)
+  into-accepted a t₂ w₂ y q g = by-read (read x) refl (sym (ap (λ (k : answer.ReadAnswer). outOf k w₁) y) ∙ p ∙ into-is x w h) where
+    by-read : (b : Answer (List (List (List ℕ)))) → read x ≡ b → accepted w₁ ≡ reading.left (length w) b → loadedOf a t₂ w₂ ≡ left (length t) (length w) (described image s x)
     by-read (given d) e o =
         let c : w₁ ≡ encode records.sections (length w) d = ap (λ (k : Out). k .cells) o in
         let l : length w₁ ≡ length w = ap length c ∙ length-read x d (length w) h e in
-        let g : viewIn w₁ ≡ view d = ap viewIn c ∙ view-encode (length w) d (read-good x d e) in
+        let u : viewIn w₁ ≡ view d = ap viewIn c ∙ view-encode (length w) d (read-good x d e) in
         let m : length t₁ ≡ length t = ap length z ∙ length-replicate (length t) 0 in
-        let f : filledOf a t₂ ≡ filled (length t) (filling image base x (view d)) = q ∙ rw (m, g) in
-        ap (loadedOf a t₂) (s ∙ ap (λ (k : ℕ). replicate k 0) l)
-        ∙ with-work (length t) (length w) a t₂ (filling image base x (view d)) f
-        ∙ ap (left (length t) (length w)) (sym (described-given image base x d e))
+        let f : filledOf a t₂ ≡ filled (length t) (filling image s x (view d)) = q ∙ rw (m, u) in
+        ap (loadedOf a t₂) (g ∙ ap (λ (k : ℕ). replicate k 0) l)
+        ∙ with-work (length t) (length w) a t₂ (filling image s x (view d)) f
+        ∙ ap (left (length t) (length w)) (sym (described-given image s x d e))
     by-read (refused k m) e o = absurd (never k m tt (sym (ap (λ (i : Out). i .answer) o)))
 
-  pub into-refused : (n m : ℕ) → r ≡ ended.Refused n m → loadedOf (variant.Refused n m) t₁ w₁ ≡ left (length t) (length w) (described image base x)
+  pub into-refused : (n m : ℕ) → r ≡ ended.Refused n m → loadedOf (variant.Refused n m) t₁ w₁ ≡ left (length t) (length w) (described image s x)
   into-refused n m y = by-read (read x) refl (sym (ap (λ (k : answer.ReadAnswer). outOf k w₁) y) ∙ p ∙ into-is x w h) where
-    by-read : (b : Answer (List (List (List ℕ)))) → read x ≡ b → refusing n m w₁ ≡ reading.left (length w) b → loadedOf (variant.Refused n m) t₁ w₁ ≡ left (length t) (length w) (described image base x)
+    by-read : (b : Answer (List (List (List ℕ)))) → read x ≡ b → refusing n m w₁ ≡ reading.left (length w) b → loadedOf (variant.Refused n m) t₁ w₁ ≡ left (length t) (length w) (described image s x)
     by-read (given d) e o = absurd (never n m tt (ap (λ (i : Out). i .answer) o))
     by-read (refused k j) e o =
-        ap (λ (s : List ℕ). loadedOf (variant.Refused n m) s w₁) z
+        ap (λ (c : List ℕ). loadedOf (variant.Refused n m) c w₁) z
         ∙ ap (λ (i : Out). record { answer = i .answer; tables = replicate (length t) 0; work = i .cells }) o
-        ∙ ap (left (length t) (length w)) (sym (described-refused image base x k j e))
+        ∙ ap (left (length t) (length w)) (sym (described-refused image s x k j e))
 
 -- the cleared tables are zeros, and as long as before
 cleared-long : (t t₁ : List ℕ) → t₁ ≡ replicate (length t) 0 → length t₁ ≡ length t
@@ -183,19 +185,25 @@ unfolding records.sections
 work-room = refl
 
 -- f is what `sizes_fit` gave
-module _ (x image t w : List ℕ) (base : ℕ) (f : Bool) (p : f ≡ sizesFit (length x) (length image) base (length t)) where
+module _ (x image t w : List ℕ) (s : Setting) (f : Bool) (p : f ≡ sizesFit (length x) (length image) (s .base) (length t)) where
   pub tables-fit : (f && leb 42578 (length w)) ≡ true → room tableSections ≤ length t
-  tables-fit h = sizes-room (length x) (length image) base (length t) (sym p ∙ and-left f (leb 42578 (length w)) h)
+  tables-fit h = sizes-room (length x) (length image) (s .base) (length t) (sym p ∙ and-left f (leb 42578 (length w)) h)
 
   pub work-fits : (f && leb 42578 (length w)) ≡ true → room records.sections ≤ length w
   work-fits h = rw work-room (leb-true 42578 (length w) (and-right f (leb 42578 (length w)) h))
 
-  pub load-fits : (a : LoadAnswer) (t₁ w₁ : List ℕ) → (f && leb 42578 (length w)) ≡ true → loadedOf a t₁ w₁ ≡ left (length t) (length w) (described image base x) → loadedOf a t₁ w₁ ≡ loaded x image base t w
-  unfolding loaded
-  load-fits a t₁ w₁ h q = q ∙ rw (← p, work-room, h)
-
-  pub load-short : (f && leb 42578 (length w)) ≡ false → loadedOf (variant.Refused 20 0) t w ≡ loaded x image base t w
+  pub load-short : (f && leb 42578 (length w)) ≡ false → loadedOf (variant.Refused 20 0) t w ≡ loaded x image s t w
   unfolding loaded
   load-short h = rw (← p, work-room, h)
 
-pub ruleset loads = (tables-fit, work-fits, load-fits, load-short, needs)
+  -- e is what `is_edition` gave
+  module _ (h : (f && leb 42578 (length w)) ≡ true) (e : Bool) (q : e ≡ isEdition (s .edition)) where
+    pub load-fits : (a : LoadAnswer) (t₁ w₁ : List ℕ) → e ≡ true → loadedOf a t₁ w₁ ≡ left (length t) (length w) (described image s x) → loadedOf a t₁ w₁ ≡ loaded x image s t w
+    unfolding loaded
+    load-fits a t₁ w₁ y r = r ∙ rw (← p, work-room, h, ← q, y)
+
+    pub load-other : e ≡ false → loadedOf (variant.Refused 33 0) t w ≡ loaded x image s t w
+    unfolding loaded
+    load-other y = rw (← p, work-room, h, ← q, y)
+
+pub ruleset loads = (tables-fit, work-fits, load-fits, load-other, load-short, needs)

@@ -1,5 +1,6 @@
 // The whole load: a description read, judged and turned into tables, or refused.
 use built::build;
+use convert::edition::is_edition;
 use engine::read::read;
 use grammar::state::ReadAnswer;
 use grammar::view::ROOM;
@@ -8,6 +9,7 @@ use methods::convert_all;
 use objects::stage::Turn;
 use refer::Reference;
 use refer::refer_all;
+use tables::setting::Setting;
 use tables::sizes::sizes_fit;
 use turns::judge_all;
 ghost use mathlib.Core.Path.{_≡_};
@@ -28,6 +30,9 @@ pub enum LoadAnswer {
 
 // A lent buffer is too short, text or image too long, or base plus image above 2^32.
 const SIZES: u8 = 20;
+
+// The edition is neither 1 nor 2.
+const NO_EDITION: u8 = 33;
 
 // The conversions, then the objects.
 fn judge_last(image: &[u8], base: u32, x: &[u8], t: &[u64]) -> Turn
@@ -50,28 +55,28 @@ fn judge_records(image: &[u8], base: u32, x: &[u8], t: &[u64]) -> Turn
 }
 
 // The records judged, and the tables, which are zeros, filled where all is well.
-fn fill(x: &[u8], image: &[u8], base: u32, tables: &mut [u64], t: &[u64]) -> LoadAnswer
+fn fill(x: &[u8], image: &[u8], s: Setting, tables: &mut [u64], t: &[u64]) -> LoadAnswer
     requires { ⌜ (now tables ≡ replicate (length (now tables)) 0) × (room tableSections ≤ length (now tables)) ⌝ }
-    ensures { λ r. ⌜ filledOf r (now (tables .exit)) ≡ filled (length (now (tables .entry))) (filling (now (image .entry)) base (now (x .entry)) (viewIn (now (t .entry)))) ⌝ }
+    ensures { λ r. ⌜ filledOf r (now (tables .exit)) ≡ filled (length (now (tables .entry))) (filling (now (image .entry)) s (now (x .entry)) (viewIn (now (t .entry)))) ⌝ }
 {
-    match judge_records(image, base, x, t) {
+    match judge_records(image, s.base, x, t) {
         Turn::Total(elements) => {
-            build(image, base, x, t, tables, elements);
+            build(image, s, x, t, tables, elements);
             LoadAnswer::Accepted
         }
         Turn::Refused { no, place } => LoadAnswer::Refused { no, place },
     }
 }
 
-// A load into buffers that are long enough.
-fn load_into(x: &[u8], image: &[u8], base: u32, tables: &mut [u64], work: &mut [u64]) -> LoadAnswer
+// A load by an edition there is, into buffers that are long enough.
+fn load_into(x: &[u8], image: &[u8], s: Setting, tables: &mut [u64], work: &mut [u64]) -> LoadAnswer
     requires { ⌜ (room tableSections ≤ length (now tables)) × (room records.sections ≤ length (now work)) ⌝ }
-    ensures { λ r. ⌜ loadedOf r (now (tables .exit)) (now (work .exit)) ≡ left (length (now (tables .entry))) (length (now (work .entry))) (described (now (image .entry)) base (now (x .entry))) ⌝ }
+    ensures { λ r. ⌜ loadedOf r (now (tables .exit)) (now (work .exit)) ≡ left (length (now (tables .entry))) (length (now (work .entry))) (described (now (image .entry)) s (now (x .entry))) ⌝ }
 {
     records::clear(tables);
     match read(x, work) {
         ReadAnswer::Accepted => {
-            let answer = fill(x, image, base, tables, work);
+            let answer = fill(x, image, s, tables, work);
             records::clear(work);
             answer
         }
@@ -79,13 +84,19 @@ fn load_into(x: &[u8], image: &[u8], base: u32, tables: &mut [u64], work: &mut [
     }
 }
 
-// Loads a description into tables; a refusal leaves tables and work zero, and 20 leaves them untouched.
-pub fn load(x: &[u8], image: &[u8], base: u32, tables: &mut [u64], work: &mut [u64]) -> LoadAnswer
-    ensures { λ r. ⌜ loadedOf r (now (tables .exit)) (now (work .exit)) ≡ loaded (now (x .entry)) (now (image .entry)) base (now (tables .entry)) (now (work .entry)) ⌝ }
+// Loads a description into tables; a refusal leaves tables and work zero, and 20 and 33 leave them untouched.
+pub fn load(x: &[u8], image: &[u8], s: Setting, tables: &mut [u64], work: &mut [u64]) -> LoadAnswer
+    ensures { λ r. ⌜ loadedOf r (now (tables .exit)) (now (work .exit)) ≡ loaded (now (x .entry)) (now (image .entry)) s (now (tables .entry)) (now (work .entry)) ⌝ }
 {
-    let fits = sizes_fit(x.len(), image.len(), base, tables.len());
+    let fits = sizes_fit(x.len(), image.len(), s.base, tables.len());
     if fits & ((ROOM as usize) <= work.len()) {
-        return load_into(x, image, base, tables, work);
+        if is_edition(s.edition as u64) {
+            return load_into(x, image, s, tables, work);
+        }
+        return LoadAnswer::Refused {
+            no: NO_EDITION,
+            place: 0,
+        };
     }
     LoadAnswer::Refused {
         no: SIZES,

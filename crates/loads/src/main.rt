@@ -1,5 +1,5 @@
 // Loads the descriptions of its input and prints a line for each: how much its tables hold, or its refusal's number and place.
-// A line `====` parts two of them. Each starts with a line of its own: the base address, a space, the image in hex.
+// A line `====` parts two of them. Each starts with a line of its own: the base address, a space, the image in hex. All are of edition 1.
 use cases::LF;
 use cases::PART_BYTES;
 use cases::SPACE;
@@ -8,6 +8,7 @@ use cases::bytes_of;
 use cases::number_at;
 use cases::part_end;
 use cases::place_from;
+use convert::edition::EDITION_ONE;
 use libc::STDIN_FILENO;
 use libc::STDOUT_FILENO;
 use load::LoadAnswer;
@@ -19,6 +20,7 @@ use tables::form::OBJECT;
 use tables::form::TABLE;
 use tables::form::count_of;
 use tables::form::slot_of;
+use tables::setting::Setting;
 
 // The most bytes of all descriptions together, and of one image.
 const TEXT_BYTES: usize = 65536;
@@ -56,7 +58,11 @@ fn print_loaded(x: &[u8], image: &[u8], base: u32, n: usize) {
     let mut t = [0u64; TABLE_CELLS];
     let mut work = [0u64; WORK_CELLS];
     io::print_decimal(STDOUT_FILENO, n as u64);
-    match load(x, image, base, &mut t, &mut work) {
+    let s = Setting {
+        base,
+        edition: EDITION_ONE,
+    };
+    match load(x, image, s, &mut t, &mut work) {
         LoadAnswer::Accepted => {
             print_accepted(&t);
         }

@@ -15,7 +15,8 @@ use Rattle.number.specs.Answer.{Answer, given, refused}
 use Rattle.cell.specs.Kind.{shapeOf}
 use Rattle.cell.specs.Raw.{fitsRaw}
 use Rattle.convert.specs.Asked.{askedRaw}
-use Rattle.tables.specs.Form.{objectSection, Tables, tablesIn, kind, mask, forbidden, limit}
+use Rattle.convert.specs.Edition.{halvesOf}
+use Rattle.tables.specs.Form.{objectSection, Tables, tablesIn, edition, kind, mask, forbidden, limit}
 use Rattle.tables.specs.Group.{groupOf, bytes, placeOf}
 use Rattle.tables.specs.Rule.{keepsRule}
 use Rattle.tables.specs.Sizes.{sizesFit}
@@ -76,10 +77,10 @@ wanted-numbers T g (rawNumber z) n e =
     (unless-numbers (fitsRaw (shapeOf (kind T g)) (mask T g) z) 18 [] (given z) (given-numbers [] z) n e)
 wanted-numbers T g (physicalText s) n e =
     ⊎-elim {C = OneOf wanting n} (λ h. inl h) (λ h. h)
-    (unless-numbers (not (isTabVerb T g)) 15 wanting a (λ m h. among m (asked-numbers (limit T g 11) (limit T g 14) (asksBy T g) (shapeOf (kind T g)) (mask T g) s m h)) n e)
+    (unless-numbers (not (isTabVerb T g)) 15 wanting a (λ m h. among m (asked-numbers (halvesOf (edition T)) (limit T g 11) (limit T g 14) (asksBy T g) (shapeOf (kind T g)) (mask T g) s m h)) n e)
   where
     a : Answer ℤ
-    a = askedRaw (limit T g 11) (limit T g 14) (asksBy T g) (shapeOf (kind T g)) (mask T g) s
+    a = askedRaw (halvesOf (edition T)) (limit T g 11) (limit T g 14) (asksBy T g) (shapeOf (kind T g)) (mask T g) s
 
     among : (m : ℕ) → (15 ≤ m) × (m ≤ 18) → OneOf wanting m
     among m h =

@@ -10,13 +10,14 @@ use Rattle.number.specs.Below.{anyBelow}
 use Rattle.cell.specs.Kind.{shapeOf}
 use Rattle.cell.specs.Raw.{fitsRaw, written}
 use Rattle.convert.specs.Asked.{askedRaw}
+use Rattle.convert.specs.Edition.{halvesOf}
 use Rattle.convert.specs.Method.{identicalOf}
 use Rattle.convert.specs.Shown.{Display, shown}
 use Rattle.convert.specs.Told.{held}
 use Rattle.convert.specs.declared.fraction.Physical.{Physical}
 use Rattle.convert.specs.declared.method.Coefficients.{Coefficients}
 use Rattle.text.specs.Bytes.{samePart}
-use Rattle.tables.specs.Form.{objectSection, groupSection, methodSection, Tables, tablesIn, nameCell, namePastCell, lowerCell, upperCell, conversionCell, total, kind, first, methodOf, mask, forbidden, counter, counterPlace, limit, coefficients}
+use Rattle.tables.specs.Form.{objectSection, groupSection, methodSection, Tables, tablesIn, nameCell, namePastCell, lowerCell, upperCell, conversionCell, edition, total, kind, first, methodOf, mask, forbidden, counter, counterPlace, limit, coefficients}
 use Rattle.tables.specs.Group.{groupOf, elements, bytes, placeOf}
 use Rattle.tables.specs.Rule.{isVerbal, keepsRule}
 use Rattle.tables.specs.Sizes.{sizesFit}
@@ -166,10 +167,10 @@ asksBy T g = cond (eqb (methodOf T g) 0) identicalOf (coefficients T (methodOf T
 unfoldable pub isTabVerb : Tables → ℕ → Bool
 isTabVerb T g = not (eqb (methodOf T g) 0) && isVerbal (T .slots methodSection (methodOf T g - 1) conversionCell)
 
--- "Raw writes test type and mask, no limits." "15 .. physical write under TAB_VERB"
+-- "Raw writes test type and mask, no limits." "15 .. physical write under TAB_VERB"; a half goes by the rule of the edition that the tables keep
 abbrev pub wantedRaw : Tables → ℕ → Wanted → Answer ℤ
 wantedRaw T g (rawNumber z) = unless (fitsRaw (shapeOf (kind T g)) (mask T g) z) 18 (given z)
-wantedRaw T g (physicalText s) = unless (not (isTabVerb T g)) 15 (askedRaw (limit T g lowerCell) (limit T g upperCell) (asksBy T g) (shapeOf (kind T g)) (mask T g) s)
+wantedRaw T g (physicalText s) = unless (not (isTabVerb T g)) 15 (askedRaw (halvesOf (edition T)) (limit T g lowerCell) (limit T g upperCell) (asksBy T g) (shapeOf (kind T g)) (mask T g) s)
 
 -- "21, 19": element i of group g may be written, and then the answer
 unfoldable pub writable : {A : Type 0} → List ℕ → ℕ → ℕ → Answer A → Answer A

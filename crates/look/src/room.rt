@@ -1,5 +1,5 @@
 // How many lines a list has room for.
-use tables::group::total_of;
+use tables::head::total_of;
 ghost use mathlib.Core.Path.{_≡_};
 ghost use Prim.Native.Nat.{min};
 ghost use lib.Dec.{leb};

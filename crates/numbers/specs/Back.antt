@@ -10,7 +10,7 @@ use Rattle.number.specs.Answer.{Answer, given, refused}
 abbrev pub loadBack : ℕ → placed.Answer (Unit {0})
 loadBack k = cond (eqb k 0) (placed.given tt) (placed.refused (k % 64) (k / 64))
 
--- a refusal that the number tells in full: "number 1 to 13 or 20", and a place in the description
+-- a refusal that the number tells in full: "number 1 to 13, 20 or 33", and a place in the description
 abbrev pub Tellable : placed.Answer (Unit {0}) → Type 0
 Tellable (placed.given a) = Unit {0}
 Tellable (placed.refused n p) = (0 < n) × (n < 64) × (p < 2 ^ 32)

@@ -25,9 +25,9 @@ use Rattle.listing.specs.declared.listing.ListingAnswer.the-variants as listing
 abbrev pub versionNumber : ℕ → ℕ → ℕ → ℕ
 versionNumber major minor patch = major * 65536 + minor * 256 + patch
 
--- version 0.2.0
+-- version 0.3.0
 abbrev pub version : ℕ
-version = versionNumber 0 2 0
+version = versionNumber 0 3 0
 
 -- ---- obarsivel_load
 

@@ -9,7 +9,7 @@ use borrow.Author.Tests.{leb-true, leb-false, ltb-true}
 use lib.Dec.{leb, ltb}
 use mir.Syntax.{w64}
 use mir.Val.{Fits}
-use Rattle.convert.proofs.Rounds.{rounded-down, rounded-up}
+use Rattle.convert.proofs.Rounds.{away-down, away-up}
 use Rattle.convert.proofs.Wholes.{left-true, right-true}
 use Rattle.places.specs.declared.six.Six.{Six}
 use Rattle.places.specs.Divide.{Divides}
@@ -50,12 +50,12 @@ module _ (n d q r : ℕ) (v : Divides (n % d) 6 d q r) (p : 0 < d) where
 
   pub six-down : 2 * r < d → six (n / d) q ≡ sixOf (millionthsOf n d)
   unfolding millionthsOf
-  six-down h = apart (n / d) q (millionthsOf n d) few (sym (rounded-down (n * 1000000) d (rw rest-is h)) ∙ whole-is)
+  six-down h = apart (n / d) q (millionthsOf n d) few (sym (away-down (n * 1000000) d (rw rest-is h)) ∙ whole-is)
 
   module _ (h : d ≤ 2 * r) where
     more : millionthsOf n d ≡ n / d * 1000000 + q + 1
     unfolding millionthsOf
-    more = sym (rounded-up (n * 1000000) d (rw rest-is h)) ∙ rw whole-is
+    more = sym (away-up (n * 1000000) d (rw rest-is h)) ∙ rw whole-is
 
     -- something is left over, so the divisor is not 1
     pub whole-fits : n < 2 ^ 64 → Fits w64 (n / d + 1)

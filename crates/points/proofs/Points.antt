@@ -17,6 +17,7 @@ use Rattle.convert.specs.Limit.{formed, atMost, atMostFraction, fractionAtMost}
 use Rattle.convert.specs.Method.{soundMethod, judgedMethod, ratFunc, linearOf}
 use Rattle.convert.specs.Fraction.{fraction, fractionOf}
 use Rattle.convert.specs.Round.{rounded, nearest, rawFor}
+use Rattle.convert.specs.Edition.{halvesOf}
 use Rattle.convert.specs.Asked.{askedOf, nearestRaw, roundedRaw, meansWithin, askedRaw}
 use Rattle.words.specs.Row.{word, bytes, same, kindIn}
 use Rattle.words.specs.Table.{wordRows as words}
@@ -39,5 +40,5 @@ use Rattle.objects.specs.Object.{part, layoutAt, layoutOf, word as wordOf, alig
 use Rattle.points.specs.Points.{spans, zeros, answer, AllHold, cases}
 
 pub points : AllHold cases
-unfolding trailingZeros walk over isBlank isAllowed isLetter isDigit startsName inName startsNumber pairAt sameFor samePart lineEnd commentEnd blankAt tokenEnds nameEnd nameAt stringEnd stringAt runEnd numberAt isBegin isEnd markAt tokenAt nextToken inRun digitOf valueOn allDigits leading trailing wholeFrom wholeOf signs minus lowest made isExponent exponentSize pointMoved judgedDecimal movedDecimal pointed signedBy plainOf isE mantissa fromE withExponent decimalOf shapes shapeOf number digits rawOf fitsRaw storedWith rawAt written allSmall formed atMost atMostFraction fractionAtMost soundMethod judgedMethod ratFunc linearOf fraction fractionOf rounded nearest rawFor askedOf nearestRaw roundedRaw meansWithin askedRaw word bytes same kindIn words classOf classAt sections rows needed rowAt needAt allParams paramAt firstParam applied wrong keeping takenWhole takenDecimal takenNumber findFrom takenNew takenName takenText taken rowFrom rowOf oneMore stands plainRow opens allMet ends item afterBegin afterEnd onPiece move readFrom start read linearAt ratFuncAt coefficients wordFor alignment nextFrom aligned inside insert inOrder parts both apart apartFrom allApart distinct comesBefore counted matching soundLayout startOf countStored countAt pointsOf within placeOne allPlaced begin placement bytesOf elementsStored allInside weighed judgedObject isType part layoutAt layoutOf wordOf alignsOf firstOf groundOf axisNeed curveNeed characteristicNeed needOf maskFits judgeObject spans zeros answer cases
-points = (refl, (refl, (refl, (refl, (refl, (refl, (refl, (refl, (refl, (refl, (refl, (refl, (refl, (refl, (refl, (refl, (refl, tt)))))))))))))))))
+unfolding trailingZeros walk over isBlank isAllowed isLetter isDigit startsName inName startsNumber pairAt sameFor samePart lineEnd commentEnd blankAt tokenEnds nameEnd nameAt stringEnd stringAt runEnd numberAt isBegin isEnd markAt tokenAt nextToken inRun digitOf valueOn allDigits leading trailing wholeFrom wholeOf signs minus lowest made isExponent exponentSize pointMoved judgedDecimal movedDecimal pointed signedBy plainOf isE mantissa fromE withExponent decimalOf shapes shapeOf number digits rawOf fitsRaw storedWith rawAt written allSmall formed atMost atMostFraction fractionAtMost soundMethod judgedMethod ratFunc linearOf fraction fractionOf rounded nearest rawFor halvesOf askedOf nearestRaw roundedRaw meansWithin askedRaw word bytes same kindIn words classOf classAt sections rows needed rowAt needAt allParams paramAt firstParam applied wrong keeping takenWhole takenDecimal takenNumber findFrom takenNew takenName takenText taken rowFrom rowOf oneMore stands plainRow opens allMet ends item afterBegin afterEnd onPiece move readFrom start read linearAt ratFuncAt coefficients wordFor alignment nextFrom aligned inside insert inOrder parts both apart apartFrom allApart distinct comesBefore counted matching soundLayout startOf countStored countAt pointsOf within placeOne allPlaced begin placement bytesOf elementsStored allInside weighed judgedObject isType part layoutAt layoutOf wordOf alignsOf firstOf groundOf axisNeed curveNeed characteristicNeed needOf maskFits judgeObject spans zeros answer cases
+points = (refl, (refl, (refl, (refl, (refl, (refl, (refl, (refl, (refl, (refl, (refl, (refl, (refl, (refl, (refl, (refl, (refl, (refl, (refl, tt)))))))))))))))))))

@@ -14,6 +14,7 @@ use Rattle.cell.specs.Kind.{UWORD, SWORD, shapeOf}
 use Rattle.cell.specs.Raw.{fitsRaw, rawAt, written}
 use Rattle.convert.specs.Fraction.{Value, none, number, fractionOf}
 use Rattle.convert.specs.Asked.{andThen, orRefused, askedRaw}
+use Rattle.convert.specs.Edition.{editionOne, editionTwo, halvesOf}
 use Rattle.grammar.specs.Move.{View, view}
 use Rattle.grammar.specs.Read.{read}
 use Rattle.methods.specs.Methods.{coefficients}
@@ -25,8 +26,8 @@ use Rattle.place.specs.declared.judge.Standing.{Standing}
 pub data Question : Type 0 where
   -- what a raw number shows by a description's method
   shown : List ℕ → ℤ → Question
-  -- which raw number an asked value stores, by a description's method and in a data type
-  stored : List ℕ → ℕ → String → Question
+  -- which raw number an asked value stores, by an edition, a description's method and in a data type
+  stored : ℕ → List ℕ → ℕ → String → Question
   -- the raw number of bytes, MSB_FIRST or not, of a data type under a mask (0: none)
   raw : Bool → ℕ → ℕ → List ℕ → Question
   -- the bytes that a raw write leaves, MSB_FIRST or not, of a data type under a mask
@@ -78,7 +79,7 @@ spans l s =
 -- What the definitions answer.
 unfoldable pub answer : Question → Outcome
 answer (shown x i) = outcomeOf (λ v. outcomeBy (λ k. value (fractionOf k i)) (coefficients v 0)) (read x)
-answer (stored x type s) = outcomeOf (λ v. outcomeBy whole (andThen (coefficients v 0) (λ k. askedRaw least greatest k (shapeOf type) 0 (spelt s)))) (read x)
+answer (stored e x type s) = outcomeOf (λ v. outcomeBy whole (andThen (coefficients v 0) (λ k. askedRaw (halvesOf e) least greatest k (shapeOf type) 0 (spelt s)))) (read x)
 answer (raw first type mask image) = whole (rawAt first 0 (shapeOf type) mask image)
 answer (left first type mask image z) = outcomeBy bytes (orRefused 18 (fitsRaw (shapeOf type) mask z) (written first 0 (shapeOf type) mask z image))
 answer (stands x base image) = outcomeOf (λ v. outcomeBy (spans (layoutOf x v 0)) (judgeObject image base x v 0 0)) (read x)
@@ -151,8 +152,11 @@ cases =
     ∷ (shown P4 (pos 0) is value none)
     ∷ (shown (COEFFS "0 2 0 0 1 0") (pos 1) is refusal 10)
     -- P6 under P1, 11.8005 stores 11801; −0.0005 in SWORD stores −1.
-    ∷ (stored P1 UWORD "11.8005" is whole (pos 11801))
-    ∷ (stored P1 SWORD "-0.0005" is whole (negℤ (pos 1)))
+    ∷ (stored editionOne P1 UWORD "11.8005" is whole (pos 11801))
+    ∷ (stored editionOne P1 SWORD "-0.0005" is whole (negℤ (pos 1)))
+    -- (P1 to P10 are for edition 1. In edition 2 these are the even neighbours.)
+    ∷ (stored editionTwo P1 UWORD "11.8005" is whole (pos 11800))
+    ∷ (stored editionTwo P1 SWORD "-0.0005" is whole (pos 0))
     -- P7 mask 0x00F0, word 0x12A7: raw 10; writing 3 leaves 0x1237; 16 is 18. P8 mask 0x0005: 5 fits, 2 is 18.
     ∷ (raw MSB-FIRST UWORD 0x00F0 (0x12 ∷ 0xA7 ∷ []) is whole (pos 10))
     ∷ (left MSB-FIRST UWORD 0x00F0 (0x12 ∷ 0xA7 ∷ []) (pos 3) is bytes (0x12 ∷ 0x37 ∷ []))

@@ -2,7 +2,7 @@
 --     refusal-listed     a load's refusal has a number of document 01's list and a place in the text, or the text's length
 --     refusal-leaves     "20 leaves tables untouched, other load refusals leave them zero"
 use Prim.Native.Nat.{ℕ, zero, suc, _+_, _-_, _≤_}
-use mathlib.Core.Path.{_≡_, refl, sym, subst}
+use mathlib.Core.Path.{_≡_, refl, subst}
 use mathlib.Core.List.{List, [], _∷_}
 use mathlib.Core.Bool.{Bool, _&&_}
 use mathlib.Core.Logic.{_⊎_, inl, inr}
@@ -45,9 +45,11 @@ use Rattle.place.specs.declared.walk.Reached.{Reached}
 use Rattle.objects.specs.Object.{layoutOf, groundOf, needOf, maskFits, judgeObject}
 use Rattle.objects.specs.Stage.{turnsFrom, totalOr, marked, turn, judgeEach, judgeAll}
 use Rattle.facts.proofs.Texts.{text-inside, method-name, object-name}
+use Rattle.convert.specs.Edition.{isEdition}
+use Rattle.tables.specs.declared.setting.Setting.{Setting}
 use Rattle.tables.specs.Sizes.{sizesFit}
-use Rattle.load.specs.Load.{described, Loaded, left, loaded}
-use Rattle.refusals.specs.Refusals.{Refusal, lent, described as in-text}
+use Rattle.load.specs.Load.{described, Loaded, left, untouched, loaded}
+use Rattle.refusals.specs.Refusals.{Refusal, lent, edition, described as in-text}
 use Rattle.facts.proofs.Numbers.{Number}
 use Rattle.refusals.proofs.Moves.{Answered, read-told}
 
@@ -169,28 +171,28 @@ module _ (image : List ℕ) (base : ℕ) (x : List ℕ) (d : List (List (List �
   objects-told = each-told (turnsFrom (count d object) x (view d) 0) (replicate mostObjects 0) 0
 
 -- ---- the load
-pub described-told : (image : List ℕ) (base : ℕ) (x : List ℕ) → Answered (length x) (described image base x)
+pub described-told : (image : List ℕ) (setting : Setting) (x : List ℕ) → Answered (length x) (described image setting x)
 unfolding described
-described-told image base x =
+described-told image setting x =
     answered-with (length x) (read x) _ (read-told x) λ d r.
-    answered-with (length x) (referred x (view d)) _ (refers-told image base x d r) λ u s.
-    answered-with (length x) (converts (view d)) _ (converts-from image base x d r (count d method) 0) λ w t.
-    answered-with (length x) (judgeAll image base x (view d)) _ (objects-told image base x d r) (λ n j. tt)
+    answered-with (length x) (referred x (view d)) _ (refers-told image (setting .base) x d r) λ u s.
+    answered-with (length x) (converts (view d)) _ (converts-from image (setting .base) x d r (count d method) 0) λ w t.
+    answered-with (length x) (judgeAll image (setting .base) x (view d)) _ (objects-told image (setting .base) x d r) (λ n j. tt)
 
-module _ (x image : List ℕ) (base : ℕ) (tables work : List ℕ) where
+module _ (x image : List ℕ) (setting : Setting) (tables work : List ℕ) where
   abbrev enough : Bool
-  enough = sizesFit (length x) (length image) base (length tables) && leb (room records.sections) (length work)
+  enough = sizesFit (length x) (length image) (setting .base) (length tables) && leb (room records.sections) (length work)
 
   -- what a refusal says, and what it leaves
   abbrev pub Leaves : Loaded → Type 0
   Leaves o = (n p : ℕ) → o .answer ≡ refused n p
-      → (Refusal x n p) × (((n ≡ 20) × (o .tables ≡ tables) × (o .work ≡ work)) ⊎ ((n ≤ 13) × (o .tables ≡ replicate (length tables) 0) × (o .work ≡ replicate (length work) 0)))
+      → (Refusal x n p) × ((((n ≡ 20) ⊎ (n ≡ 33)) × (o .tables ≡ tables) × (o .work ≡ work)) ⊎ ((n ≤ 13) × (o .tables ≡ replicate (length tables) 0) × (o .work ≡ replicate (length work) 0)))
 
-  short-leaves : Leaves (record { answer = refused 20 0; tables = tables; work = work })
-  short-leaves n p e =
-      let a : 20 ≡ n = cc in
+  untouched-leaves : (k : ℕ) → Refusal x k 0 → (k ≡ 20) ⊎ (k ≡ 33) → Leaves (untouched k tables work)
+  untouched-leaves k r o n p e =
+      let a : k ≡ n = cc in
       let b : 0 ≡ p = cc in
-      (subst (λ m. Refusal x m p) a (subst (λ q. Refusal x 20 q) b lent), inl (sym a, refl, refl))
+      (subst (λ m. Refusal x m p) a (subst (λ q. Refusal x k q) b r), inl (subst (λ m. (m ≡ 20) ⊎ (m ≡ 33)) a o, refl, refl))
 
   left-leaves : (a : Answer (List (List (List ℕ)))) → Answered (length x) a → Leaves (left (length tables) (length work) a)
   left-leaves (given D) h n p e = let z : _≡_ {A = ℕ} 0 1 = cc in absurd (omega arith)
@@ -202,16 +204,19 @@ module _ (x image : List ℕ) (base : ℕ) (tables work : List ℕ) where
       let i : p ≤ length x = omega (arith, h .1) in
       (in-text l m i, inr (m, refl, refl))
 
-  all-leave : Leaves (loaded x image base tables work)
+  all-leave : Leaves (loaded x image setting tables work)
   unfolding loaded
-  all-leave = by-test Leaves enough (λ t. left-leaves (described image base x) (described-told image base x)) (λ t. short-leaves)
+  all-leave =
+      by-test Leaves enough
+      (λ t. by-test Leaves (isEdition (setting .edition)) (λ v. left-leaves (described image setting x) (described-told image setting x)) (λ v. untouched-leaves 33 edition (inr refl)))
+      (λ t. untouched-leaves 20 lent (inl refl))
 
   -- a load's refusal is one of document 01's list, at a place in the text or at its end
-  pub refusal-listed : (n p : ℕ) → loaded x image base tables work .answer ≡ refused n p → Refusal x n p
+  pub refusal-listed : (n p : ℕ) → loaded x image setting tables work .answer ≡ refused n p → Refusal x n p
   refusal-listed n p e = all-leave n p e .0
 
-  -- "20 leaves tables untouched, other load refusals leave them zero"
-  pub refusal-leaves : (n p : ℕ) → loaded x image base tables work .answer ≡ refused n p
-      → ((n ≡ 20) × (loaded x image base tables work .tables ≡ tables) × (loaded x image base tables work .work ≡ work))
-      ⊎ ((n ≤ 13) × (loaded x image base tables work .tables ≡ replicate (length tables) 0) × (loaded x image base tables work .work ≡ replicate (length work) 0))
+  -- "20 leaves tables untouched, other load refusals leave them zero", and 33 leaves them untouched
+  pub refusal-leaves : (n p : ℕ) → loaded x image setting tables work .answer ≡ refused n p
+      → (((n ≡ 20) ⊎ (n ≡ 33)) × (loaded x image setting tables work .tables ≡ tables) × (loaded x image setting tables work .work ≡ work))
+      ⊎ ((n ≤ 13) × (loaded x image setting tables work .tables ≡ replicate (length tables) 0) × (loaded x image setting tables work .work ≡ replicate (length work) 0))
   refusal-leaves n p e = all-leave n p e .1

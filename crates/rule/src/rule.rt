@@ -5,6 +5,7 @@ use crate::conversion::keeps_table;
 use crate::object::keeps_object;
 use crate::part::keeps_group;
 use crate::unused::keeps_form;
+use convert::edition::is_edition;
 use tables::form::ENTRY;
 use tables::form::GROUP;
 use tables::form::HEAD;
@@ -15,7 +16,8 @@ use tables::form::TABLE;
 use tables::form::count_of;
 use tables::form::slot_of;
 use tables::group::elements_of;
-use tables::group::total_of;
+use tables::head::edition_of;
+use tables::head::total_of;
 ghost use mathlib.Core.Path.{_≡_};
 ghost use Prim.Native.Nat.{ℕ};
 ghost use Rattle.tables.specs.Form.{tablesIn, objectSection, groupSection, methodSection, tableSection, entrySection};
@@ -120,12 +122,12 @@ fn sum_of(t: &[u64]) -> u64
     sum
 }
 
-// Whether the head says how many elements there are, and there are not too many.
+// Whether the head has an edition, says how many elements there are, and there are not too many.
 fn keeps_head(t: &[u64]) -> bool
     ensures { λ r. ⌜ r ≡ headRule (tablesIn (now (t .entry))) ⌝ }
 {
     let heads = count_of(t, HEAD);
-    let edition = slot_of(t, HEAD, 0, 0);
+    let edition = is_edition(edition_of(t));
     let mark = slot_of(t, HEAD, 0, 1);
     let total = total_of(t);
     let sum = sum_of(t);
@@ -133,7 +135,7 @@ fn keeps_head(t: &[u64]) -> bool
     let objects = count_of(t, OBJECT);
     let parts = (objects as u32) * (PARTS as u32);
     (heads == 1)
-        & (edition == 0)
+        & edition
         & (mark == 0)
         & (total == sum)
         & (total <= MOST_ELEMENTS)

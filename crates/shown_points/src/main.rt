@@ -8,6 +8,8 @@ use cell::raw::read_raw;
 use cell::raw::write_raw;
 use cell::size::size;
 use convert::asked::RawAnswer;
+use convert::edition::EDITION_ONE;
+use convert::edition::EDITION_TWO;
 use convert::fraction::NUMBER;
 use convert::fraction::Physical;
 use convert::method::Coefficients;
@@ -89,9 +91,17 @@ fn coefficients(answer: MethodAnswer) -> Coefficients {
     k
 }
 
-// Prints which raw number an asked value stores.
-fn stored(k: Coefficients, kind: u64, asked: &[u8]) {
-    let answer = asked_raw(asked, decimal(b"-1000"), decimal(b"1000"), k, kind, 0);
+// Prints which raw number an asked value stores by an edition.
+fn stored(edition: u32, k: Coefficients, kind: u64, asked: &[u8]) {
+    let answer = asked_raw(
+        edition as u64,
+        asked,
+        decimal(b"-1000"),
+        decimal(b"1000"),
+        k,
+        kind,
+        0,
+    );
     match answer {
         RawAnswer::Raw(raw) => {
             print(b" ");
@@ -221,8 +231,11 @@ fn show_nearest() {
         1,
     );
     print(b"\nP6");
-    stored(coefficients(first()), UWORD, b"11.8005");
-    stored(coefficients(first()), SWORD, b"-0.0005");
+    stored(EDITION_ONE, coefficients(first()), UWORD, b"11.8005");
+    stored(EDITION_ONE, coefficients(first()), SWORD, b"-0.0005");
+    print(b", in edition 2");
+    stored(EDITION_TWO, coefficients(first()), UWORD, b"11.8005");
+    stored(EDITION_TWO, coefficients(first()), SWORD, b"-0.0005");
 }
 
 // P7 to P9: masks and byte orders.

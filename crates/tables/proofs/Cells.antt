@@ -1,8 +1,8 @@
 -- Tables in cells: what can be asked of the cells is what can be asked of the records, and cells made of ruled records keep the rule.
 use Prim.Native.Nat.{ℕ, suc, _+_, _-_, _*_, _≤_, _<_}
-use mathlib.Core.Path.{_≡_, _∙_}
+use mathlib.Core.Path.{_≡_, ap, ap₂, _∙_}
 use mathlib.Core.List.{List, []}
-use mathlib.Core.Bool.{true}
+use mathlib.Core.Bool.{true, _&&_}
 use native.Mathlib.Omega.{arith}
 use native.Mathlib.Nat.{add-zero}
 use borrow.Author.Tests.{le-leb, eq-eqb}
@@ -11,7 +11,7 @@ use lib.Seq.{getD-append-add}
 use Rattle.records.specs.Records.{count, widthOf, mostOf}
 use Rattle.records.specs.Cells.{joined, baseIn, room, encode}
 use Rattle.records.proofs.Encode.{Good, count-encode, slot-encode, get-part, zeros, length-joined, fit-wide, fit-few}
-use Rattle.tables.specs.Form.{tableSections, tablesOf, tablesIn}
+use Rattle.tables.specs.Form.{tableSections, Tables, tablesOf, tablesIn}
 use Rattle.tables.specs.Rule.{countFits, unusedZero, formRule, ruled, keepsRule}
 use Rattle.tables.proofs.All.{both, all-of}
 use Rattle.tables.proofs.LoopLaws.{formedAt, clearAt}
@@ -48,9 +48,13 @@ module _ (n : ℕ) (d : List (List (List ℕ))) (g : Good tableSections d) (j : 
       (all-of (widthOf tableSections j * mostOf tableSections j - widthOf tableSections j * count d j) (clearAt (encode tableSections n d) (baseIn tableSections j + (1 + widthOf tableSections j * count d j)))
       (λ k h. eq-eqb _ 0 (rest-cell k h)))
 
-pub encode-keeps : (n m k : ℕ) (d : List (List (List ℕ))) → Good tableSections d → room tableSections ≤ k → ruled (tablesOf d) n m ≡ true → keepsRule n m (encode tableSections k d) ≡ true
+-- the form is kept, and so the table rule is what it says of the records
+pub encode-rule : (n m k : ℕ) (d : List (List (List ℕ))) → Good tableSections d → room tableSections ≤ k → keepsRule n m (encode tableSections k d) ≡ ruled (tablesOf d) n m
 unfolding keepsRule formRule
-encode-keeps n m k d g h r =
-    both (formRule (encode tableSections k d)) (ruled (tablesIn (encode tableSections k d)) n m)
+encode-rule n m k d g h =
+    ap₂ _&&_
     (all-of (length tableSections) (formedAt (encode tableSections k d)) (λ j l. both (countFits (encode tableSections k d) j) (unusedZero (encode tableSections k d) j) (count-kept k d g j l) (unused-kept k d g j l)))
-    (rw (tables-encode k d g) r)
+    (ap (λ (T : Tables). ruled T n m) (tables-encode k d g))
+
+pub encode-keeps : (n m k : ℕ) (d : List (List (List ℕ))) → Good tableSections d → room tableSections ≤ k → ruled (tablesOf d) n m ≡ true → keepsRule n m (encode tableSections k d) ≡ true
+encode-keeps n m k d g h r = encode-rule n m k d g h ∙ r

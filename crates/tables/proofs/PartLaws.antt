@@ -13,10 +13,11 @@ use Rattle.number.specs.Most.{mostElements, mostPoints}
 use Rattle.cell.specs.Kind.{shapeOf, isType}
 use Rattle.cell.specs.Mask.{maskRule}
 use Rattle.cell.proofs.Shapes.{bytes-le}
+use Rattle.convert.specs.Edition.{isEdition}
 use Rattle.convert.specs.Limit.{atMost}
 use Rattle.convert.specs.Method.{soundMethod}
 use Rattle.convert.specs.declared.method.Coefficients.{Coefficients}
-use Rattle.tables.specs.Form.{headSection, objectSection, groupSection, methodSection, tableSection, entrySection, Tables, pastPoints, total, kind, place, x, y, wide, high, walk, methodOf, mask, counter, counterPlace, limit, coefficients}
+use Rattle.tables.specs.Form.{headSection, objectSection, groupSection, methodSection, tableSection, entrySection, Tables, pastPoints, edition, total, kind, place, x, y, wide, high, walk, methodOf, mask, counter, counterPlace, limit, coefficients}
 use Rattle.number.specs.Below.{sumBelow, allBelow}
 use Rattle.tables.specs.Group.{elements, bytes}
 use Rattle.tables.specs.Rule.{isFraction, textRule, insideRule, wordRule, partsRule, objectRule, isNoPart, pointsRule, counterRule, axisRule, valuesRule, limitsRule, bytesRule, roleRule, partRule, groupRule, verbalRule, signsRule, fractionRule, methodRule, tableRule, entryRule, headRule, ruled}
@@ -116,10 +117,10 @@ module _ (T : Tables) where
     unfolding entryRule
     entry-is n a d e s e1 e2 e3 e4 = rw (e4, e1, e2, e3)
 
-  pub head-is : (h a b c s n k : ℕ) → h ≡ T .counts headSection → a ≡ T .slots headSection 0 0 → b ≡ T .slots headSection 0 1 → c ≡ total T → s ≡ sumBelow (T .counts groupSection) (elements T)
-      → n ≡ T .counts groupSection → k ≡ T .counts objectSection → (eqb h 1 && eqb a 0 && eqb b 0 && eqb c s && leb c mostElements && eqb n (k * 3)) ≡ headRule T
+  pub head-is : (h a b c s n k : ℕ) (v : Bool) → h ≡ T .counts headSection → a ≡ edition T → v ≡ isEdition a → b ≡ T .slots headSection 0 1 → c ≡ total T → s ≡ sumBelow (T .counts groupSection) (elements T)
+      → n ≡ T .counts groupSection → k ≡ T .counts objectSection → (eqb h 1 && v && eqb b 0 && eqb c s && leb c mostElements && eqb n (k * 3)) ≡ headRule T
   unfolding headRule
-  head-is h a b c s n k e1 e2 e3 e4 e5 e6 e7 = rw (e5, e1, e2, e3, e4, e6, e7)
+  head-is h a b c s n k v e1 e2 e8 e3 e4 e5 e6 e7 = rw (e5, e8, e1, e2, e3, e4, e6, e7)
 
   pub ruled-is : (n m : ℕ) (h o g c a e : Bool) → h ≡ headRule T → o ≡ allBelow (T .counts objectSection) (objectRule T n) → g ≡ allBelow (T .counts groupSection) (λ i. groupRule T i m)
       → c ≡ allBelow (T .counts methodSection) (methodRule T) → a ≡ allBelow (T .counts tableSection) (tableRule T n) → e ≡ allBelow (T .counts entrySection) (entryRule T n)

@@ -16,7 +16,8 @@ use Rattle.number.specs.Most.{mostElements, mostPoints}
 use Rattle.cell.specs.Kind.{shapeOf, isType}
 use Rattle.cell.specs.Mask.{maskRule}
 use Rattle.rows.specs.Codes.{MEASUREMENT}
-use Rattle.tables.specs.Form.{headSection, objectSection, groupSection, methodSection, tableSection, entrySection, Tables, tablesIn, total, kind, place, x, y, wide, high, walk, methodOf, mask, forbidden, counter, counterPlace}
+use Rattle.convert.specs.Edition.{isEdition}
+use Rattle.tables.specs.Form.{headSection, objectSection, groupSection, methodSection, tableSection, entrySection, Tables, tablesIn, edition, total, kind, place, x, y, wide, high, walk, methodOf, mask, forbidden, counter, counterPlace}
 use Rattle.number.specs.Below.{sumBelow, allBelow}
 use Rattle.tables.specs.Group.{groupOf, position, elements, bytes, placeOf}
 use Rattle.tables.specs.Rule.{textRule, insideRule, valueRule, measurementRule, partsRule, objectRule, isNoPart, pointsRule, counterRule, axisRule, valuesRule, limitsRule, bytesRule, roleRule, partRule, groupRule, verbalRule, methodRule, tableRule, entryRule, headRule, ruled, formRule, keepsRule}
@@ -128,11 +129,11 @@ rule-facts n m t h =
     record { of-head = v .0; of-objects = v .1; of-groups = v .2; of-methods = v .3; of-tables = v .4; of-entries = v .5 }
 
 -- what the head says
-head-facts : (T : Tables) → headRule T ≡ true → (total T ≡ sumBelow (T .counts groupSection) (elements T)) × (total T ≤ mostElements) × (T .counts groupSection ≡ T .counts objectSection * 3)
+head-facts : (T : Tables) → headRule T ≡ true → (isEdition (edition T) ≡ true) × (total T ≡ sumBelow (T .counts groupSection) (elements T)) × (total T ≤ mostElements) × (T .counts groupSection ≡ T .counts objectSection * 3)
 unfolding headRule
 head-facts T h =
-    let v = six (eqb (T .counts headSection) 1) (eqb (T .slots headSection 0 0) 0) (eqb (T .slots headSection 0 1) 0) (eqb (total T) (sumBelow (T .counts groupSection) (elements T))) (leb (total T) mostElements) (eqb (T .counts groupSection) (T .counts objectSection * 3)) h in
-    (eqb-true (total T) (sumBelow (T .counts groupSection) (elements T)) (v .3), leb-true (total T) mostElements (v .4), eqb-true (T .counts groupSection) (T .counts objectSection * 3) (v .5))
+    let v = six (eqb (T .counts headSection) 1) (isEdition (edition T)) (eqb (T .slots headSection 0 1) 0) (eqb (total T) (sumBelow (T .counts groupSection) (elements T))) (leb (total T) mostElements) (eqb (T .counts groupSection) (T .counts objectSection * 3)) h in
+    (v .1, eqb-true (total T) (sumBelow (T .counts groupSection) (elements T)) (v .3), leb-true (total T) mostElements (v .4), eqb-true (T .counts groupSection) (T .counts objectSection * 3) (v .5))
 
 -- what one record says
 object-facts : (T : Tables) (n i : ℕ) → objectRule T n i ≡ true → (T .slots objectSection i 0 ≤ T .slots objectSection i 1) × (T .slots objectSection i 1 ≤ n)
@@ -210,13 +211,17 @@ module _ (n m : ℕ) (t : List ℕ) (h : keepsRule n m t ≡ true) where
       let o : objectRule (tablesIn t) n i ≡ true = all-at (tablesIn t .counts objectSection) (objectRule (tablesIn t) n) (rule-facts n m t h .of-objects) i l in
       rw (measurement-facts (tablesIn t) n i o e)
 
+  -- "The load takes the edition, 1 or 2, .. and the tables keep it."
+  pub has-edition : isEdition (edition (tablesIn t)) ≡ true
+  has-edition = head-facts (tablesIn t) (rule-facts n m t h .of-head) .0
+
   -- "4,096 elements in all objects"
   pub total-is : total (tablesIn t) ≡ sumBelow (tablesIn t .counts groupSection) (elements (tablesIn t))
-  total-is = head-facts (tablesIn t) (rule-facts n m t h .of-head) .0
+  total-is = head-facts (tablesIn t) (rule-facts n m t h .of-head) .1
 
   pub total-most : total (tablesIn t) ≤ mostElements
-  total-most = head-facts (tablesIn t) (rule-facts n m t h .of-head) .1
+  total-most = head-facts (tablesIn t) (rule-facts n m t h .of-head) .2
 
   -- the groups are the objects' parts
   pub groups-are : tablesIn t .counts groupSection ≡ tablesIn t .counts objectSection * 3
-  groups-are = head-facts (tablesIn t) (rule-facts n m t h .of-head) .2
+  groups-are = head-facts (tablesIn t) (rule-facts n m t h .of-head) .3

@@ -54,7 +54,7 @@ tablesIn t = record { counts = λ j. countIn t (sectionIn tableSections j); slot
 
 -- ---- the cells of each section's records, by name; of the cells that a number takes, the first
 
--- head: edition and size mark (both 0), how many elements all objects have
+-- head: edition, size mark (0), how many elements all objects have
 abbrev pub editionCell : ℕ
 editionCell = 0
 
@@ -189,6 +189,9 @@ abbrev pub pastCoefficient : ℕ
 pastCoefficient = 1000000001
 
 module _ (T : Tables) where
+  abbrev pub edition : ℕ
+  edition = T .slots headSection 0 editionCell
+
   abbrev pub total : ℕ
   total = T .slots headSection 0 totalCell
 

@@ -10,6 +10,7 @@ use lib.ListN.{length, getD}
 use Rattle.number.specs.Most.{mostElements, mostPoints}
 use Rattle.cell.specs.Kind.{isType, shapeOf}
 use Rattle.cell.specs.Mask.{maskRule}
+use Rattle.convert.specs.Edition.{isEdition}
 use Rattle.convert.specs.Limit.{atMost}
 use Rattle.convert.specs.Method.{soundMethod, identicalOf}
 use Rattle.convert.specs.Whole.{eqZ}
@@ -17,7 +18,7 @@ use Rattle.convert.specs.declared.method.Coefficients.{Coefficients}
 use Rattle.records.specs.Records.{widthOf, mostOf}
 use Rattle.records.specs.Cells.{baseIn, sectionIn, countIn}
 use Rattle.rows.specs.Codes.{AXIS-PTS, MEASUREMENT, VALUE, VAL-BLK, CURVE, MAP, IDENTICAL, LINEAR, RAT-FUNC, TAB-VERB}
-use Rattle.tables.specs.Form.{tableSections, headSection, objectSection, groupSection, methodSection, tableSection, entrySection, Tables, tablesIn, editionCell, sizeMarkCell, nameCell, namePastCell, whatCell, orderCell, forbiddenCell, lowerCell, upperCell, counterPlaceCell, groupWidth, conversionCell, bCell, cCell, eCell, fCell, tableCell, firstEntryCell, entriesCell, defaultCell, defaultPastCell, signCell, textCell, textPastCell, total, kind, place, x, y, wide, high, walk, methodOf, mask, counter, counterPlace, limit, coefficients}
+use Rattle.tables.specs.Form.{tableSections, headSection, objectSection, groupSection, methodSection, tableSection, entrySection, Tables, tablesIn, sizeMarkCell, nameCell, namePastCell, whatCell, orderCell, forbiddenCell, lowerCell, upperCell, counterPlaceCell, groupWidth, conversionCell, bCell, cCell, eCell, fCell, tableCell, firstEntryCell, entriesCell, defaultCell, defaultPastCell, signCell, textCell, textPastCell, edition, total, kind, place, x, y, wide, high, walk, methodOf, mask, counter, counterPlace, limit, coefficients}
 use Rattle.number.specs.Below.{sumBelow, allBelow, anyBelow}
 use Rattle.tables.specs.Group.{groupOf, elements, bytes}
 
@@ -167,10 +168,10 @@ module _ (T : Tables) where
   unfoldable pub entryRule : ℕ → ℕ → Bool
   entryRule n i = leb (T .slots entrySection i signCell) 1 && textRule n (T .slots entrySection i textCell) (T .slots entrySection i textPastCell)
 
-  -- "4,096 elements in all objects", as many as the head says; edition and size mark have no meaning yet
+  -- "The load takes the edition, 1 or 2, .. and the tables keep it."; "4,096 elements in all objects", as many as the head says; the size mark has no meaning yet
   unfoldable pub headRule : Bool
   headRule =
-      eqb (T .counts headSection) 1 && eqb (T .slots headSection 0 editionCell) 0 && eqb (T .slots headSection 0 sizeMarkCell) 0
+      eqb (T .counts headSection) 1 && isEdition (edition T) && eqb (T .slots headSection 0 sizeMarkCell) 0
       && eqb (total T) (sumBelow (T .counts groupSection) (elements T)) && leb (total T) mostElements && eqb (T .counts groupSection) (T .counts objectSection * 3)
 
   unfoldable pub ruled : ℕ → ℕ → Bool

@@ -1,6 +1,5 @@
 // The groups: the parts of the objects, and the place of each element in the image.
 use crate::form::GROUP;
-use crate::form::HEAD;
 use crate::form::slot_of;
 use cell::kind::shape_of;
 use number::decimal::Decimal;
@@ -8,7 +7,7 @@ ghost use mathlib.Core.Path.{_≡_};
 ghost use Prim.Native.Nat.{_/_, _%_, _^_, _≤_, _<_, min};
 ghost use Rattle.number.specs.Told.{scaled};
 ghost use Rattle.cell.specs.Kind.{shapeOf};
-ghost use Rattle.tables.specs.Form.{tablesIn, pastPoints, pastImage, total, kind, first, place, x, y, wide, high, walk, methodOf, mask, forbidden, counter, counterPlace, limit};
+ghost use Rattle.tables.specs.Form.{tablesIn, pastPoints, pastImage, kind, first, place, x, y, wide, high, walk, methodOf, mask, forbidden, counter, counterPlace, limit};
 ghost use Rattle.tables.specs.Group.{position, elements, bytes, placeOf, storageOf, reachable, placeBy};
 
 // One past "4,096 elements in all objects", and one past "1 MiB of image".
@@ -51,13 +50,6 @@ fn power_of(n: u64) -> u32
     ensures { λ r. ⌜ r ≡ min n 7 ⌝ }
 {
     if n < 7 { n as u32 } else { 7 }
-}
-
-// How many elements all objects have, as the head says.
-pub fn total_of(t: &[u64]) -> u64
-    ensures { λ r. ⌜ r ≡ total (tablesIn (now (t .entry))) ⌝ }
-{
-    slot_of(t, HEAD, 0, 2)
 }
 
 // A group's data type; 0 is a part that is not stored.

@@ -10,8 +10,9 @@ use Rattle.number.specs.Decimal.{Scaled}
 use Rattle.cell.specs.Kind.{shapeOf}
 use Rattle.cell.specs.Raw.{fitsRaw, written}
 use Rattle.convert.specs.Asked.{roundedRaw, askedRaw}
+use Rattle.convert.specs.Edition.{halvesOf}
 use Rattle.convert.specs.declared.method.Coefficients.{Coefficients}
-use Rattle.tables.specs.Form.{tablesIn, kind, first, mask, limit}
+use Rattle.tables.specs.Form.{tablesIn, edition, kind, first, mask, limit}
 use Rattle.tables.specs.Group.{placeOf}
 use Rattle.look.specs.Calls.{rawNumber, physicalText, asksBy, isTabVerb, wantedRaw, stored}
 
@@ -23,14 +24,14 @@ module _ (t : List ℕ) (g k m : ℕ) (pk : k ≡ kind (tablesIn t) g) (pm : m �
   pub raw-unfit : (z y : ℤ) (b : Bool) → b ≡ fitsRaw (shapeOf k) m y → y ≡ z → b ≡ false → refused 18 ≡ wantedRaw (tablesIn t) g (rawNumber z)
   raw-unfit z y b e h q = rw (← pk, ← pm, ← h, ← e, q)
 
-  pub asked-is : (s : List ℕ) (b : Bool) (lo up : Scaled) (f : Coefficients) (a : Answer ℤ) → b ≡ isTabVerb (tablesIn t) g → b ≡ false
-      → lo ≡ limit (tablesIn t) g 11 → up ≡ limit (tablesIn t) g 14 → f ≡ asksBy (tablesIn t) g → a ≡ askedRaw lo up f (shapeOf k) m s
+  pub asked-is : (s : List ℕ) (b : Bool) (e : ℕ) (lo up : Scaled) (f : Coefficients) (a : Answer ℤ) → b ≡ isTabVerb (tablesIn t) g → b ≡ false
+      → lo ≡ limit (tablesIn t) g 11 → up ≡ limit (tablesIn t) g 14 → f ≡ asksBy (tablesIn t) g → e ≡ edition (tablesIn t) → a ≡ askedRaw (halvesOf e) lo up f (shapeOf k) m s
       → a ≡ wantedRaw (tablesIn t) g (physicalText s)
-  asked-is s b lo up f a e q pl pu pf h = h ∙ rw (pl, pu, pf, pk, pm, ← e, q)
+  asked-is s b e lo up f a v q pl pu pf pe h = h ∙ rw (pl, pu, pf, pe, pk, pm, ← v, q)
 
-  pub rounded-is : (s : List ℕ) (lo up : Scaled) (f : Coefficients) (a : Answer ℤ) → lo ≡ limit (tablesIn t) g 11 → up ≡ limit (tablesIn t) g 14 → f ≡ asksBy (tablesIn t) g
-      → a ≡ roundedRaw lo up f (shapeOf k) m s → a ≡ roundedRaw (limit (tablesIn t) g 11) (limit (tablesIn t) g 14) (asksBy (tablesIn t) g) (shapeOf (kind (tablesIn t) g)) (mask (tablesIn t) g) s
-  rounded-is s lo up f a pl pu pf h = h ∙ rw (pl, pu, pf, pk, pm)
+  pub rounded-is : (s : List ℕ) (e : ℕ) (lo up : Scaled) (f : Coefficients) (a : Answer ℤ) → e ≡ edition (tablesIn t) → lo ≡ limit (tablesIn t) g 11 → up ≡ limit (tablesIn t) g 14 → f ≡ asksBy (tablesIn t) g
+      → a ≡ roundedRaw (halvesOf e) lo up f (shapeOf k) m s → a ≡ roundedRaw (halvesOf (edition (tablesIn t))) (limit (tablesIn t) g 11) (limit (tablesIn t) g 14) (asksBy (tablesIn t) g) (shapeOf (kind (tablesIn t) g)) (mask (tablesIn t) g) s
+  rounded-is s e lo up f a pe pl pu pf h = h ∙ rw (pe, pl, pu, pf, pk, pm)
 
 pub asked-text : (t : List ℕ) (g : ℕ) (s : List ℕ) (b : Bool) → b ≡ isTabVerb (tablesIn t) g → b ≡ true → refused 15 ≡ wantedRaw (tablesIn t) g (physicalText s)
 asked-text t g s b e q = rw (← e, q)

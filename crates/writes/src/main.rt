@@ -9,6 +9,7 @@ use cases::bytes_of;
 use cases::number_at;
 use cases::part_end;
 use cases::place_from;
+use convert::edition::EDITION_ONE;
 use libc::STDIN_FILENO;
 use libc::STDOUT_FILENO;
 use list::make::make_list;
@@ -19,6 +20,7 @@ use listings::whole::listing;
 use load::LoadAnswer;
 use load::load;
 use look::call::CallAnswer;
+use tables::setting::Setting;
 
 // The most bytes of the input and of the listing, the bytes of the image; how many lines the list has room for.
 const TEXT_BYTES: usize = 32768;
@@ -350,7 +352,11 @@ fn print_refusal(no: u8, place: usize) {
 fn run_loaded(q: &[u8], x: &[u8], image: &mut [u8], base: u32) {
     let mut t = [0u64; TABLE_CELLS];
     let mut work = [0u64; WORK_CELLS];
-    match load(x, image, base, &mut t, &mut work) {
+    let s = Setting {
+        base,
+        edition: EDITION_ONE,
+    };
+    match load(x, image, s, &mut t, &mut work) {
         LoadAnswer::Accepted => {
             run_short(x, image, base, &t);
             run_damaged(x, image, base);

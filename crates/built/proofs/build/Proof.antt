@@ -8,10 +8,10 @@ returns : tie.Need-returns
 returns c =
     let s = c .before .before .before .before .before .before .before .before .before .before .before .before .before .before .before .before .before .before .before .before .before .before .before .before .before .before .before .before in
     let a = s .args in
-    built-is (a .image .now) (a .base) (a .x .now) (viewIn (a .t .now)) (a .elements) (within-in (a .t .now)) _ _ _ _ _ _ _
+    built-is (a .image .now) (a .s) (a .x .now) (viewIn (a .t .now)) (a .elements) (within-in (a .t .now)) _ _ _ _ _ _ _
     (s .pre .0)
     (s .pre .1)
-    (c .before .before .before .before .before .before .before .before .before .before .before .before .before .before .before .before .before .before .before .before .before .before .put-row-of-three .ensures)
+    (c .before .before .before .before .before .before .before .before .before .before .before .before .before .before .before .before .before .before .before .before .before .before .put-head .ensures)
     (c .before .before .before .before .before .before .before .before .before .before .before .before .before .before .before .before .before .before .put-objects .ensures)
     (c .before .before .before .before .before .before .before .before .before .before .before .before .before .before .put-groups .ensures)
     (c .before .before .before .before .before .before .before .before .before .before .put-methods .ensures)

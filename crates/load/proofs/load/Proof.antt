@@ -1,4 +1,4 @@
-use borrow.Author.Needs.{needs}
+-- `load::load` meets its contract. Assumes nothing.
 use Rattle.load.proofs.load.Statement.{statement}
 use Rattle.load.proofs.load.Tie as tie
 use Rattle.load.proofs.LoadLaws.{loads}
@@ -7,10 +7,13 @@ pub load-spec : {M : Type 1} → statement M
 load-spec =
     tie.close
     (tie.spec
-    (λ c κs. search needs)
-    (λ c. search needs)
     (λ c κs. search loads)
-    (λ c. search needs)
-    (λ c. search needs)
+    (λ c. search loads)
+    (λ c. search loads)
+    (λ c κs. search loads)
+    (λ c κs. search loads)
+    (λ c. search loads)
+    (λ c. search loads)
+    (λ c. search loads)
     (λ c. search loads)
     (λ c. search loads))

@@ -13,6 +13,7 @@ keeps-head-spec =
     (λ c κs. search records)
     (λ c κs. search records)
     (λ c κs. search records)
+    (λ c κs. search records)
     (λ c. search records)
     (λ c. search records)
     (λ c. search records)

@@ -15,4 +15,5 @@ raw-asked-spec =
     (λ c κs. search wants)
     (λ c κs. search wants)
     (λ c κs. search wants)
+    (λ c κs. search wants)
     (λ c. search wants))

@@ -13,4 +13,5 @@ raw-rounded-spec =
     (λ c κs. search wants)
     (λ c κs. search wants)
     (λ c κs. search wants)
+    (λ c κs. search wants)
     (λ c. search wants))

@@ -156,8 +156,8 @@ fn long_number() -> Subject {
     }
 }
 
-/// The proved reader's load.
-fn load(subject: &Subject, lent: &mut Lent) -> u64 {
+/// The proved reader's load with an edition.
+fn load(subject: &Subject, lent: &mut Lent, edition: u32) -> u64 {
     // SAFETY: every pointer is a vector's with its own length.
     unsafe {
         raw::obarsivel_load(
@@ -166,6 +166,7 @@ fn load(subject: &Subject, lent: &mut Lent) -> u64 {
             subject.image.as_ptr(),
             subject.image.len(),
             0,
+            edition,
             lent.tables.as_mut_ptr(),
             lent.tables.len(),
             lent.work.as_mut_ptr(),
@@ -366,13 +367,13 @@ fn times(seconds: f64, mut subject: Subject) {
         seconds,
         "load",
         what,
-        |_| accepted(load(&subject, &mut lent)),
-        |_| drop(black_box(plain::load(&subject.text, &subject.image, 0).expect(refused))),
+        |_| accepted(load(&subject, &mut lent, 1)),
+        |_| drop(black_box(plain::load(&subject.text, &subject.image, 0, 1).expect(refused))),
     );
     if rows == Rows::Load {
         return;
     }
-    let cells = plain::load(&subject.text, &subject.image, 0).expect(refused);
+    let cells = plain::load(&subject.text, &subject.image, 0, 1).expect(refused);
     let mut lines = vec![Line::default(); 4096];
     let objects = cells[4] as usize;
     let each = cells[3] as usize / objects;
@@ -420,17 +421,22 @@ fn times(seconds: f64, mut subject: Subject) {
             plain::write_raw(&text, &mut image, 0, &cells, &mut lines, object, 2, index, step as i64).expect(refused)
         },
     );
-    row(
-        seconds,
-        "write_physical",
-        what,
-        |step| accepted(write(&mut subject, &mut lent, at(step).0, at(step).1, Err(b"11.8005")) as u64),
-        |step| {
-            let (object, index) = at(step);
-            plain::write_physical(&text, &mut image, 0, &cells, &mut lines, object, 2, index, b"11.8005")
-                .expect(refused)
-        },
-    );
+    // 11.8005 lies exactly between two raw numbers.
+    for (edition, call) in [(1, "write_physical"), (2, "write_physical, edition 2")] {
+        accepted(load(&subject, &mut lent, edition));
+        let cells = plain::load(&text, &image, 0, edition).expect(refused);
+        row(
+            seconds,
+            call,
+            what,
+            |step| accepted(write(&mut subject, &mut lent, at(step).0, at(step).1, Err(b"11.8005")) as u64),
+            |step| {
+                let (object, index) = at(step);
+                plain::write_physical(&text, &mut image, 0, &cells, &mut lines, object, 2, index, b"11.8005")
+                    .expect(refused)
+            },
+        );
+    }
     row(
         seconds,
         "listing",

@@ -1,5 +1,5 @@
 //! Damage to the tables that is aimed: at one reason of the table rule alone, or past it so that the rule is kept.
-use crate::requests::{factors, group, method, type_range, GROUPS, METHODS, OBJECTS};
+use crate::requests::{factors, group, method, raws, type_range, EDITION, GROUPS, METHODS, OBJECTS};
 use crate::rng::Rng;
 use crate::steps::{self, Steps};
 
@@ -17,7 +17,10 @@ pub struct Aim {
 }
 
 /// All aims, those that break the rule and those that keep it.
-pub const AIMS: [Aim; 20] = [
+pub const AIMS: [Aim; 23] = [
+    Aim { what: "the other edition", breaks: false, make: other_edition },
+    Aim { what: "edition 0", breaks: true, make: edition_0 },
+    Aim { what: "a number that is no edition", breaks: true, make: no_edition },
     Aim { what: "another number in IDENTICAL", breaks: true, make: other_identical },
     Aim { what: "a minus before a 0 of IDENTICAL", breaks: false, make: minus_zero },
     Aim { what: "b of LINEAR no power of ten", breaks: true, make: no_power },
@@ -114,6 +117,23 @@ fn removed(cells: &[u64], (object, part): (usize, usize)) -> Changes {
     zeros.chain([(3, cells[3] - old[3] * old[4])]).collect()
 }
 
+/// The other edition: writes round halves by it.
+fn other_edition(cells: &[u64], _: usize, _: &mut Rng) -> Option<Changes> {
+    Some(vec![(EDITION, 3 - cells[EDITION])])
+}
+
+/// The edition of tables that no load of this version made.
+fn edition_0(_: &[u64], _: usize, _: &mut Rng) -> Option<Changes> {
+    Some(vec![(EDITION, 0)])
+}
+
+/// A number that is no edition, perhaps with the lowest bits of one, or any.
+fn no_edition(_: &[u64], _: usize, rng: &mut Rng) -> Option<Changes> {
+    let (one, any) = (rng.range(1, 2), rng.next().max(3));
+    let like = one + rng.pick(&[2, 1 << 8, 1 << 16, 1 << 32, 1 << 63]);
+    Some(vec![(EDITION, rng.pick(&[3, 4, 255, u64::MAX, like, like, like, any]))])
+}
+
 /// One of the four numbers of an IDENTICAL method is another; b·f is not c·e even so.
 fn other_identical(cells: &[u64], _: usize, rng: &mut Rng) -> Option<Changes> {
     let at = pick_method(cells, IDENTICAL, rng)?;
@@ -199,8 +219,7 @@ fn limits_at_steps(cells: &[u64], _: usize, rng: &mut Rng) -> Option<Changes> {
     let (object, part) = pick_part(cells, rng, |_, _, stored| stored)?;
     let old = group(cells, 3 * object + part);
     let steps = Steps { factors: factors(cells, old)?, close: None };
-    let raws = if old[9] == 0 { type_range(old[0]) } else { (0, (old[9] >> old[9].trailing_zeros()) as i64) };
-    let [lower, upper] = steps::limits(steps, raws, rng)?;
+    let [lower, upper] = steps::limits(steps, raws(old), rng)?;
     let (lower, upper) =
         (limit_cells(part_cell(object, part, 11), lower), limit_cells(part_cell(object, part, 14), upper));
     Some([lower, upper].concat())

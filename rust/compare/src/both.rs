@@ -1,5 +1,6 @@
 //! One call made on both readers, and everything it may touch compared.
 use crate::lent::Lent;
+use crate::requests::EDITION;
 use obarsivel::raw;
 use plain::{Line, Rounded, Shown};
 use std::fmt;
@@ -68,6 +69,7 @@ const SHOWN_BEFORE: f64 = 1234.56789;
 const BYTE_BEFORE: u8 = 0xA7;
 
 /// Both readers' state over one description.
+#[derive(Clone)]
 pub struct Both<'a> {
     pub text: &'a [u8],
     pub base: u32,
@@ -216,6 +218,16 @@ impl<'a> Both<'a> {
         };
         let (text, image, lines) = (self.text, &self.image, &self.lines);
         plain::rounded(text, image, self.base, tables, lines, *object, *part, *index, asked).ok()
+    }
+
+    /// Makes a call on copies under the other edition: what they are then, and the answer's refusal or 0.
+    pub fn in_other_edition(&self, call: &Call, tables: &mut [u64]) -> Result<(Both<'a>, u8), String> {
+        let mut copy = self.clone();
+        let edition = tables[EDITION];
+        tables[EDITION] = 3 - edition;
+        let answer = copy.call(call, tables);
+        tables[EDITION] = edition;
+        Ok((copy, answer?))
     }
 
     /// Tells whether images, lists and guards are the same on both sides.

@@ -1,6 +1,7 @@
 //! One case: a description from its seed, loaded by both readers, then every call compared.
 use crate::aimed::{aimed, AIMS};
 use crate::both::{Both, Call};
+use crate::counts::{half_in_53_bits, Stats};
 use crate::damage::{damage_image, damage_text, damage_tokens, put_word};
 use crate::generate::make;
 use crate::large::{large, KINDS};
@@ -9,7 +10,7 @@ use crate::requests::*;
 use crate::rng::Rng;
 use crate::token::{render, take_exponents_out};
 use obarsivel::raw;
-use plain::{Line, Refusal, Rounded};
+use plain::{Line, Refusal};
 use std::time::Instant;
 
 /// In so many seeds each large case stands once, and each word of document 000.
@@ -17,80 +18,6 @@ const ROUND: u64 = 8192;
 
 /// Where in the round the words start.
 const WORDS_FROM: u64 = 64;
-
-/// How many answers of each number there were.
-pub type Counts = [u64; 23];
-
-/// What the test of the value that would be stored met.
-#[derive(Default)]
-pub struct Stored {
-    /// Refused with 16 for that value; among these, numbers that mean no value.
-    pub outside: u64,
-    pub no_value: u64,
-    /// Refused with 18 where the value is outside the limits too.
-    pub after_18: u64,
-    /// Accepted with a value that is a limit exactly.
-    pub at_limit: u64,
-    /// Tested with a value that is no limit but the same as one in 53 bits.
-    pub close: u64,
-    /// Tested with a number of 2^60 or more in the fraction.
-    pub wide: u64,
-}
-
-impl Stored {
-    /// Counts a physical write by what would be stored and by its answer.
-    fn count(&mut self, rounded: &Rounded, answer: u8) {
-        if answer == 18 {
-            self.after_18 += !rounded.inside() as u64;
-            return;
-        }
-        self.outside += (answer == 16) as u64;
-        let Some((top, under)) = rounded.value() else {
-            self.no_value += (answer == 16) as u64;
-            return;
-        };
-        let limits = [rounded.limits.lower, rounded.limits.upper].map(|it| (it.signed(), 10i128.pow(it.power)));
-        let exact = limits.iter().any(|&(whole, ten)| whole * under == top * ten);
-        let same = limits.iter().any(|&(whole, ten)| whole as f64 / ten as f64 == top as f64 / under as f64);
-        self.at_limit += (exact && answer == 0) as u64;
-        self.close += (same && !exact) as u64;
-        self.wide += (top.abs().max(under) >= 1 << 60) as u64;
-    }
-
-    /// The counts with their names.
-    pub fn rows(&self) -> [(&'static str, u64); 6] {
-        [
-            ("16 for it", self.outside),
-            ("no value", self.no_value),
-            ("18 before 16", self.after_18),
-            ("a limit itself", self.at_limit),
-            ("as close as 53 bits", self.close),
-            ("2^60 and more", self.wide),
-        ]
-    }
-}
-
-/// What was counted.
-#[derive(Default)]
-pub struct Stats {
-    pub loads: u64,
-    pub writes: u64,
-    pub load_answers: Counts,
-    pub raw_answers: Counts,
-    pub physical_answers: Counts,
-    pub other_answers: Counts,
-    pub damaged_answers: Counts,
-    /// How often each aim of damage was answered by the rule, and not with 20.
-    pub aimed: [u64; AIMS.len()],
-    /// Loads and writes made again with the same numbers without exponents.
-    pub loads_without: u64,
-    pub writes_without: u64,
-    /// What the test of the value that would be stored met, over good tables and over damaged ones that keep the rule.
-    pub stored: Stored,
-    pub stored_damaged: Stored,
-    pub short_calls: u64,
-    pub elements: u64,
-}
 
 /// The buffers and counts that all cases share.
 pub struct Run {
@@ -108,22 +35,67 @@ pub struct Subject {
     pub without: Option<Vec<u8>>,
     pub image: Vec<u8>,
     pub base: u32,
+    pub edition: u32,
     pub requests: Vec<String>,
 }
 
-/// Makes the description, the image and the base address that follow from a seed.
+impl Subject {
+    /// What the load is asked with.
+    fn ask(&self) -> Ask<'_> {
+        Ask { text: &self.text, image: &self.image, base: self.base, edition: self.edition }
+    }
+}
+
+/// What a load is asked with.
+#[derive(Clone, Copy)]
+struct Ask<'a> {
+    text: &'a [u8],
+    image: &'a [u8],
+    base: u32,
+    edition: u32,
+}
+
+impl Ask<'_> {
+    /// The plain reader's answer.
+    fn plain(self) -> Result<Vec<u64>, Refusal> {
+        plain::load(self.text, self.image, self.base, self.edition)
+    }
+
+    /// Tells whether its edition is 1 or 2.
+    fn of_an_edition(self) -> bool {
+        (1..=2).contains(&self.edition)
+    }
+}
+
+/// One of the two editions.
+fn edition(rng: &mut Rng) -> u32 {
+    rng.range(1, 2) as u32
+}
+
+/// A number that is no edition: beside the two, at its ends, with their lowest bits alone, or any.
+fn no_edition(rng: &mut Rng) -> u32 {
+    let one = edition(rng);
+    match rng.below(4) {
+        0 | 1 => rng.pick(&[0, 3, 255, u32::MAX]),
+        2 => one + rng.pick(&[3, 1 << 8, 1 << 16, 1 << 24, 1 << 31]),
+        _ => (rng.next() as u32).max(3),
+    }
+}
+
+/// Makes the description, the image, the base address and the edition that follow from a seed.
 fn subject(seed: u64, rng: &mut Rng) -> Subject {
     let at = seed % ROUND;
     if at < KINDS {
         let made = large(at, rng);
-        return Subject { text: made.text, image: made.image, base: made.base, ..Subject::default() };
+        let edition = edition(rng);
+        return Subject { text: made.text, image: made.image, base: made.base, edition, ..Subject::default() };
     }
     let mut made = make(rng);
     let word = at.wrapping_sub(WORDS_FROM);
     if word < plain::WORDS.len() as u64 {
         put_word(&mut made, word as usize, rng);
         let text = render(&made.tokens, false, rng);
-        return Subject { text, image: made.image, base: made.base, ..Subject::default() };
+        return Subject { text, image: made.image, base: made.base, edition: edition(rng), ..Subject::default() };
     }
     let how = rng.below(20);
     if (8..16).contains(&how) {
@@ -144,7 +116,8 @@ fn subject(seed: u64, rng: &mut Rng) -> Subject {
             damage_text(&mut text, rng);
         }
     }
-    Subject { text, without, image: made.image, base: made.base, requests: Vec::new() }
+    let edition = if rng.one_in(24) { no_edition(rng) } else { edition(rng) };
+    Subject { text, without, image: made.image, base: made.base, edition, requests: Vec::new() }
 }
 
 impl Run {
@@ -162,34 +135,64 @@ impl Run {
     pub fn case(&mut self, seed: u64, subject_out: &mut Subject) -> Result<(), String> {
         let mut rng = Rng::new(seed);
         *subject_out = subject(seed, &mut rng);
-        let Subject { text, without, image, base, requests } = subject_out;
-        let expected = plain::load(text, image, *base);
+        let expected = subject_out.ask().plain();
         self.stats.loads += 1;
-        self.stats.load_answers[expected.as_ref().err().map_or(0, |it| it.number as usize)] += 1;
-        let extra = if rng.one_in(4) { 3 } else { 0 };
-        self.tables.lend(plain::CELLS + extra);
-        self.work.lend(raw::WORK_CELLS + extra);
-        requests.push(format!("Load with {extra} cells more"));
-        self.load(text, image, *base, &expected, rng.next())?;
-        if let Some(without) = without {
-            requests.push("Load without exponents".to_string());
-            self.load_without(without, image, *base, &expected).inspect_err(|_| text.clone_from(without))?;
-        }
-        if rng.one_in(16) {
-            requests.push("Load with tables or work one too short".to_string());
-            self.short_load(text, image, *base, rng.one_in(2))?;
-        }
+        self.stats.load_answers.count(expected.as_ref().err().map_or(0, |it| it.number));
+        let large = seed % ROUND < KINDS;
+        self.loads(subject_out, large, &expected, &mut rng)?;
         let Ok(cells) = expected else {
             return Ok(());
         };
+        let Subject { text, image, base, requests, .. } = subject_out;
         if !plain::keeps_rule(&cells, text.len(), image.len()) {
             return Err("the plain reader's tables break the rule".to_string());
         }
         self.calls(text, image, *base, cells, requests, &mut rng)
     }
 
+    /// Makes every load of a case; where one differs, the subject gets that one's text and edition.
+    fn loads(
+        &mut self,
+        subject: &mut Subject,
+        large: bool,
+        expected: &Result<Vec<u64>, Refusal>,
+        rng: &mut Rng,
+    ) -> Result<(), String> {
+        let extra = if rng.one_in(4) { 3 } else { 0 };
+        self.tables.lend(plain::CELLS + extra);
+        self.work.lend(raw::WORK_CELLS + extra);
+        subject.requests.push(format!("Load with {extra} cells more"));
+        self.load(subject.ask(), expected, rng.next())?;
+        if let Some(without) = subject.without.take() {
+            subject.requests.push("Load without exponents".to_string());
+            self.stats.loads_without += 1;
+            let done = self.load_like(Ask { text: &without, ..subject.ask() }, expected, "without exponents");
+            done.inspect_err(|_| subject.text = without)?;
+        }
+        if subject.ask().of_an_edition() && rng.one_in(8) {
+            let edition = 3 - subject.edition;
+            subject.requests.push(format!("Load with edition {edition}"));
+            let done = self.load_other(Ask { edition, ..subject.ask() }, expected);
+            done.inspect_err(|_| subject.edition = edition)?;
+        }
+        if large {
+            // A large case stands once in a round: it is loaded with an edition, and then with none.
+            let edition = no_edition(rng);
+            subject.requests.push(format!("Load with edition {edition}"));
+            let ask = Ask { edition, ..subject.ask() };
+            self.load(ask, &ask.plain(), rng.next()).inspect_err(|_| subject.edition = edition)?;
+        }
+        if rng.one_in(16) {
+            let edition = if rng.one_in(2) { no_edition(rng) } else { subject.edition };
+            subject.requests.push(format!("Load with edition {edition}, tables or work one too short"));
+            self.short_load(Ask { edition, ..subject.ask() }, rng.one_in(2))?;
+        }
+        Ok(())
+    }
+
     /// Calls the proved load with what is lent now.
-    fn proved_load(&mut self, text: &[u8], image: &[u8], base: u32) -> u64 {
+    fn proved_load(&mut self, ask: Ask) -> u64 {
+        let Ask { text, image, base, edition } = ask;
         let (tables, tables_len) = self.tables.parts();
         let (work, work_len) = self.work.parts();
         // SAFETY: every pointer is a living buffer's and its length is at most that buffer's.
@@ -200,6 +203,7 @@ impl Run {
                 image.as_ptr(),
                 image.len(),
                 base,
+                edition,
                 tables,
                 tables_len,
                 work,
@@ -209,17 +213,10 @@ impl Run {
     }
 
     /// Loads with the proved reader over cells full of something, and compares with what is expected.
-    fn load(
-        &mut self,
-        text: &[u8],
-        image: &[u8],
-        base: u32,
-        expected: &Result<Vec<u64>, Refusal>,
-        before: u64,
-    ) -> Result<(), String> {
+    fn load(&mut self, ask: Ask, expected: &Result<Vec<u64>, Refusal>, before: u64) -> Result<(), String> {
         self.tables.get_mut().fill(before);
         self.work.get_mut().fill(before);
-        let answer = self.proved_load(text, image, base);
+        let answer = self.proved_load(ask);
         let wanted = expected.as_ref().err().map_or(0, |it| it.place as u64 * 64 + it.number as u64);
         if answer != wanted {
             let (one, other) = ((answer % 64, answer / 64), (wanted % 64, wanted / 64));
@@ -229,10 +226,11 @@ impl Run {
             return Err("a load wrote past its tables or its work cells".to_string());
         }
         let (tables, work) = (self.tables.get(), self.work.get());
-        if wanted == 20 {
+        if wanted == 20 || wanted == 33 {
             if tables.iter().chain(work).any(|&cell| cell != before) {
-                return Err("a load refused with 20 touched its tables or work cells".to_string());
+                return Err(format!("a load refused with {wanted} touched its tables or work cells"));
             }
+            self.stats.before_33 += (wanted == 20 && !ask.of_an_edition()) as u64;
             return Ok(());
         }
         let nothing = Vec::new();
@@ -249,21 +247,24 @@ impl Run {
         }
     }
 
-    /// Loads a description whose exponents are taken out: both readers answer as they do with them, cell by cell.
-    fn load_without(
-        &mut self,
-        text: &[u8],
-        image: &[u8],
-        base: u32,
-        expected: &Result<Vec<u64>, Refusal>,
-    ) -> Result<(), String> {
-        self.stats.loads_without += 1;
-        let found = plain::load(text, image, base);
+    /// Loads what both readers must answer as they did before, cell by cell.
+    fn load_like(&mut self, ask: Ask, expected: &Result<Vec<u64>, Refusal>, what: &str) -> Result<(), String> {
+        let found = ask.plain();
         if found != *expected {
             let (found, expected) = (found.err(), expected.as_ref().err());
-            return Err(format!("the plain reader without exponents: {found:?}, with them {expected:?}"));
+            return Err(format!("the plain reader {what}: {found:?}, before {expected:?}"));
         }
-        self.load(text, image, base, expected, 4).map_err(|why| format!("without exponents: {why}"))
+        self.load(ask, expected, 4).map_err(|why| format!("{what}: {why}"))
+    }
+
+    /// Loads with the other edition: both readers answer as before, and no cell but the edition's is another.
+    fn load_other(&mut self, ask: Ask, expected: &Result<Vec<u64>, Refusal>) -> Result<(), String> {
+        self.stats.loads_other += 1;
+        let mut expected = expected.clone();
+        if let Ok(cells) = &mut expected {
+            cells[EDITION] = ask.edition as u64;
+        }
+        self.load_like(ask, &expected, "with the other edition")
     }
 
     /// Where the loads of a subject differ: a text made smaller in which they still do.
@@ -272,8 +273,8 @@ impl Run {
         self.tables.lend(plain::CELLS);
         self.work.lend(raw::WORK_CELLS);
         let mut differs = |text: &[u8]| {
-            let expected = plain::load(text, &subject.image, subject.base);
-            self.load(text, &subject.image, subject.base, &expected, 9).is_err()
+            let ask = Ask { text, ..subject.ask() };
+            self.load(ask, &ask.plain(), 9).is_err()
         };
         let mut text = subject.text.clone();
         if text.len() > 1 << 20 || !differs(&text) {
@@ -307,17 +308,18 @@ impl Run {
     }
 
     /// Loads with the tables or the work cells one too short: 20 and nothing touched.
-    fn short_load(&mut self, text: &[u8], image: &[u8], base: u32, tables: bool) -> Result<(), String> {
+    fn short_load(&mut self, ask: Ask, tables: bool) -> Result<(), String> {
         self.tables.lend(plain::CELLS);
         self.work.lend(raw::WORK_CELLS);
         self.tables.get_mut().fill(5);
         self.work.get_mut().fill(6);
         self.tables.lend(plain::CELLS - tables as usize);
         self.work.lend(raw::WORK_CELLS - !tables as usize);
-        let answer = self.proved_load(text, image, base);
+        let answer = self.proved_load(ask);
         self.tables.lend(plain::CELLS);
         self.work.lend(raw::WORK_CELLS);
         self.stats.short_calls += 1;
+        self.stats.before_33 += !ask.of_an_edition() as u64;
         if answer != 20 {
             return Err(format!("a load with a buffer too short answered {}", answer % 64));
         }
@@ -376,16 +378,8 @@ impl Run {
             }
             let (call, without) = write(&cells, &all, rng);
             requests.push(format!("{call:?}"));
-            let answer = both.call(&call, &cells).map_err(|why| format!("{call:?}: {why}"))?;
-            self.stats.writes += 1;
-            if let Call::WriteRaw(..) = call {
-                self.stats.raw_answers[answer as usize] += 1;
-            } else {
-                self.stats.physical_answers[answer as usize] += 1;
-            }
-            if let Some(rounded) = both.rounded(&call, &cells) {
-                self.stats.stored.count(&rounded, answer);
-            }
+            let answer = self.counted_write(&mut both, &call, &mut cells, rng);
+            let answer = answer.map_err(|why| format!("{call:?}: {why}"))?;
             if let Some(without) = without {
                 requests.push(format!("{without:?}"));
                 self.write_without(&mut both, &without, &cells, answer).map_err(|why| format!("{without:?}: {why}"))?;
@@ -405,6 +399,36 @@ impl Run {
         let mut both = Both::new(text, &image, base, lines);
         requests.push(format!("image of {} bytes, list of 4100 lines, base {base:#x}", image.len()));
         self.damaged_calls(&mut both, &mut cells, &all, &names, requests, rng)
+    }
+
+    /// Makes a write and counts it; sometimes, and around a half always, on copies under the other edition too: there
+    /// it may differ at a half alone.
+    fn counted_write(&mut self, both: &mut Both, call: &Call, cells: &mut [u64], rng: &mut Rng) -> Result<u8, String> {
+        let rounded = both.rounded(call, cells);
+        let half = rounded.is_some_and(|it| it.is_half());
+        let around = half || rounded.is_some_and(|it| half_in_53_bits(&it));
+        let other = if around || rng.one_in(4) { Some(both.in_other_edition(call, cells)?) } else { None };
+        let answer = both.call(call, cells)?;
+        self.stats.writes += 1;
+        match call {
+            Call::WriteRaw(..) => self.stats.raw_answers.count(answer),
+            _ => self.stats.physical_answers.count(answer),
+        }
+        if let Some(rounded) = rounded {
+            self.stats.stored.count(&rounded, answer);
+            self.stats.halves.count(&rounded, cells[EDITION]);
+        }
+        let Some((other, other_answer)) = other else {
+            return Ok(answer);
+        };
+        self.stats.writes_other += 1;
+        let same = answer == other_answer && (&both.image, &both.lines) == (&other.image, &other.lines);
+        if half {
+            self.stats.halves.count_both(cells[EDITION], [answer, other_answer], same);
+        } else if !same {
+            return Err(format!("no half, but not the same in the other edition, which answers {other_answer}"));
+        }
+        Ok(answer)
     }
 
     /// Makes a write again whose exponent is taken out: the same answer, and nothing is changed any more.
@@ -458,6 +482,9 @@ impl Run {
             let answer = both.call(&call, cells).map_err(|why| format!("{what}: {why}"))?;
             if let Some(rounded) = both.rounded(&call, cells) {
                 self.stats.stored_damaged.count(&rounded, answer);
+                self.stats.halves_damaged.count(&rounded, cells[EDITION]);
+                let turned = right.iter().any(|&(cell, old)| cell == EDITION && old != cells[EDITION]);
+                self.stats.halves_turned += (turned && rounded.is_half()) as u64;
             }
             if rule == (answer == 22) && answer != 20 {
                 return Err(format!("{what}: rule kept {rule}, answer {answer}"));
@@ -468,7 +495,7 @@ impl Run {
                 }
                 self.stats.aimed[number] += (answer != 20) as u64;
             }
-            self.stats.damaged_answers[answer as usize] += 1;
+            self.stats.damaged_answers.count(answer);
             for &(cell, value) in &right {
                 cells[cell] = value;
             }
@@ -482,7 +509,7 @@ impl Run {
             requests.push(format!("{call:?}"));
             format!("{call:?}: {why}")
         })?;
-        self.stats.other_answers[answer as usize] += 1;
+        self.stats.other_answers.count(answer);
         Ok(())
     }
 

@@ -290,7 +290,7 @@ impl Maker<'_> {
     /// Two limit tokens in order: at steps of a conversion for raw numbers of a range, or any.
     fn limits(&mut self, steps: Option<Steps>, raws: (i64, i64)) -> Vec<Token> {
         let at_steps = match steps {
-            Some(steps) if !self.rng.one_in(3) => steps::limits(steps, raws, self.rng),
+            Some(steps) if steps.close.is_some() || !self.rng.one_in(3) => steps::limits(steps, raws, self.rng),
             _ => None,
         };
         let [lower, upper] = at_steps.unwrap_or_else(|| self.any_limits());
@@ -323,7 +323,7 @@ impl Maker<'_> {
 
     /// A conversion for raw numbers of a range: its name and its steps; a verbal one has none.
     fn conversion(&mut self, raws: (i64, i64)) -> (Token, Option<Steps>) {
-        if raws.1 >= i32::MAX as i64 && self.rng.one_in(2) {
+        if self.rng.one_in(if raws.1 >= i32::MAX as i64 { 2 } else { 6 }) {
             // One of its own, whose fractions have great numbers.
             let steps = steps::great_made(raws, self.rng);
             let group = self.coeffs(steps.factors.map(|whole| (whole as i64, 0)));

@@ -4,6 +4,7 @@
 const GUARD: usize = 6;
 
 /// A buffer of which the first cells are lent.
+#[derive(Clone)]
 pub struct Lent<T> {
     cells: Vec<T>,
     lend: usize,

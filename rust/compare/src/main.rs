@@ -4,6 +4,7 @@
 mod aimed;
 mod both;
 mod case;
+mod counts;
 mod damage;
 mod generate;
 mod large;
@@ -15,7 +16,8 @@ mod steps;
 mod token;
 
 use aimed::AIMS;
-use case::{Counts, Run, Stats, Stored, Subject};
+use case::{Run, Subject};
+use counts::{Counts, Stats};
 use std::path::{Path, PathBuf};
 use std::time::{Duration, Instant};
 
@@ -67,31 +69,29 @@ fn options() -> Result<Options, String> {
 /// Prints how many answers of each number there were.
 fn histogram(what: &str, counts: &Counts) {
     let shown: Vec<String> = counts
-        .iter()
-        .enumerate()
-        .filter(|(_, &count)| count > 0)
+        .rows()
         .map(|(number, count)| if number == 0 { format!("accepted {count}") } else { format!("{number}: {count}") })
         .collect();
     println!("{what:<18} {}", shown.join(", "));
 }
 
-/// Prints what the test of the value that would be stored met.
-fn stored(what: &str, stored: &Stored) {
-    let shown = stored.rows().map(|(name, count)| format!("{name}: {count}"));
+/// Prints counts with their names.
+fn named(what: &str, rows: &[(&str, u64)]) {
+    let shown: Vec<String> = rows.iter().map(|(name, count)| format!("{name}: {count}")).collect();
     println!("{what:<18} {}", shown.join(", "));
 }
 
 /// The numbers that should have occurred and have not.
 fn never(stats: &Stats) -> Vec<String> {
     let mut missing = Vec::new();
-    let mut look = |what: &str, counts: &Counts, numbers: &[usize]| {
+    let mut look = |what: &str, counts: &Counts, numbers: &[u8]| {
         for &number in numbers {
-            if counts[number] == 0 {
+            if counts.of(number) == 0 {
                 missing.push(format!("{what} {number}"));
             }
         }
     };
-    look("load", &stats.load_answers, &[0, 1, 2, 3, 4, 5, 6, 7, 8, 9, 10, 11, 12, 13, 20]);
+    look("load", &stats.load_answers, &[0, 1, 2, 3, 4, 5, 6, 7, 8, 9, 10, 11, 12, 13, 20, 33]);
     look("raw write", &stats.raw_answers, &[0, 14, 18, 19, 21]);
     look("physical write", &stats.physical_answers, &[0, 14, 15, 16, 17, 18, 19, 21]);
     look("damaged tables", &stats.damaged_answers, &[0, 20, 22]);
@@ -101,14 +101,15 @@ fn never(stats: &Stats) -> Vec<String> {
     if stats.loads_without == 0 || stats.writes_without == 0 {
         missing.push("a load and a write without their exponents".to_string());
     }
-    for (what, count) in stats.stored.rows() {
-        if count == 0 {
-            missing.push(format!("a stored value: {what}"));
+    let mut look = |kind: &str, rows: &[(&str, u64)]| {
+        for (what, _) in rows.iter().filter(|&&(_, count)| count == 0) {
+            missing.push(format!("{kind}: {what}"));
         }
-    }
-    if stats.stored_damaged.outside == 0 {
-        missing.push("16 for a stored value over damaged tables".to_string());
-    }
+    };
+    look("a stored value", &stats.stored.rows());
+    look("a stored value over damaged tables", &stats.stored_damaged.rows()[..1]);
+    look("an exact half", &stats.halves.rows());
+    look("both editions", &stats.editions());
     missing
 }
 
@@ -117,7 +118,7 @@ fn write_files(out: &Path, seed: u64, why: &str, subject: &Subject) -> std::io::
     std::fs::create_dir_all(out)?;
     std::fs::write(out.join("description.a2l"), &subject.text)?;
     std::fs::write(out.join("image.bin"), &subject.image)?;
-    let mut requests = format!("seed {seed}\nbase {:#x}\n", subject.base);
+    let mut requests = format!("seed {seed}\nbase {:#x}\nedition {}\n", subject.base, subject.edition);
     for request in &subject.requests {
         requests += request;
         requests.push('\n');
@@ -169,8 +170,10 @@ fn run(options: &Options) -> i32 {
     }
     let (loads, writes) = (stats.loads_without, stats.writes_without);
     println!("{:<18} loads {loads}, writes {writes}", "exponents out");
-    stored("stored value", &stats.stored);
-    stored("  damaged tables", &stats.stored_damaged);
+    named("stored value", &stats.stored.rows());
+    named("  damaged tables", &stats.stored_damaged.rows());
+    named("exact halves", &stats.halves.rows());
+    named("both editions", &stats.editions());
     println!("{:<18} {}", "buffers too short", stats.short_calls);
     println!("{:<18} {}", "elements", stats.elements);
     println!("{:<18} {:.1}", "seconds", start.elapsed().as_secs_f64());

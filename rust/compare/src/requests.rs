@@ -2,7 +2,10 @@
 use crate::both::Call;
 use crate::rng::Rng;
 use crate::spell::{decimal, edge, with_exponent};
-use crate::steps::{around_limit, around_pole, exact, value, Factors, IDENTICAL, MOST};
+use crate::steps::{around_limit, around_pole, at_half, exact, value, Factors, IDENTICAL, MOST};
+
+/// Where the edition stands in the tables.
+pub const EDITION: usize = 1;
 
 /// Where the sections stand in the tables: count cell, width of a record.
 pub const OBJECTS: usize = 4;
@@ -84,6 +87,14 @@ pub fn type_range(code: u64) -> (i64, i64) {
     }
 }
 
+/// The lowest and the highest raw number of a part, by its mask or its data type.
+pub fn raws(part: &[u64]) -> (i64, i64) {
+    match part[9] {
+        0 => type_range(part[0]),
+        mask => (0, (mask >> mask.trailing_zeros()) as i64),
+    }
+}
+
 /// A raw value for a part: in it, at its ends, past them, around its mask.
 fn raw_value(part: &[u64], rng: &mut Rng) -> i64 {
     let (lowest, highest) = type_range(part[0]);
@@ -155,14 +166,16 @@ fn any_number(part: &[u64], rng: &mut Rng) -> (i64, u32) {
     }
 }
 
-/// A number to ask for by a part's coefficients: around a limit or the pole, without a raw number, at a raw number or
-/// between two of them.
+/// A number to ask for by a part's coefficients: at a limit, around it or around the pole, without a raw number,
+/// exactly between two raw numbers or at one.
 fn number_at_steps(factors: Factors, part: &[u64], rng: &mut Rng) -> Option<(i64, u32)> {
     let [_, _, e, f] = factors;
-    match rng.below(10) {
+    match rng.below(16) {
         0..=3 => around_limit(factors, limit(part, rng.pick(&[11, 14])), rng),
         4..=6 if e != 0 => around_pole(factors, rng),
         7 | 8 if e != 0 => exact(-f, e),
+        9..=12 => at_half(factors, raws(part), limit(part, rng.pick(&[11, 14])), rng),
+        13 | 14 => Some(limit(part, rng.pick(&[11, 14]))),
         _ => {
             let twice = 2 * raw_value(part, rng).clamp(-(1 << 33), 1 << 33) as i128 + rng.below(2) as i128;
             let (top, under) = value(factors, twice, 2);

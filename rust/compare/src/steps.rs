@@ -14,7 +14,8 @@ pub const MOST: u64 = 9_999_999_999;
 /// The greatest whole number of a decimal to ask for, and the greatest coefficient.
 const MOST_ASKED: i128 = 1_000_000_000;
 
-/// How a conversion steps: its coefficients and, where they are made for it, a decimal very close to a step.
+/// How a conversion steps: its coefficients and, where they are made for it, a decimal very close to a step or to half
+/// of one.
 #[derive(Clone, Copy)]
 pub struct Steps {
     pub factors: Factors,
@@ -87,6 +88,28 @@ pub fn around_pole(factors: Factors, rng: &mut Rng) -> Option<(i64, u32)> {
     let of = rng.pick(&[2, 3, 4, 8, 100, 10_000, 1_000_000]);
     let parts = pole(factors)? * of + rng.pick(&[1, -1]);
     near(value(factors, parts, of), rng)
+}
+
+/// A number to ask for that lies exactly between two raw numbers: around zero, at the ends of a range, around a limit,
+/// or anywhere in the range.
+pub fn at_half(
+    factors: Factors,
+    (lowest, highest): (i64, i64),
+    limit: (i64, u32),
+    rng: &mut Rng,
+) -> Option<(i64, u32)> {
+    let mut one = || {
+        let below = match rng.below(6) {
+            0 | 1 => rng.below(10) as i128 - 5,
+            2 => lowest as i128 - rng.below(2) as i128,
+            3 => highest as i128 - rng.below(2) as i128,
+            4 => raw_near(factors, limit)? - rng.below(2) as i128,
+            _ => lowest as i128 + rng.below((highest - lowest + 1) as u64) as i128,
+        };
+        let (top, under) = value(factors, 2 * below + 1, 2);
+        exact(top, under).filter(|&(whole, _)| whole.unsigned_abs() <= MOST_ASKED as u64)
+    };
+    (0..8).find_map(|_| one())
 }
 
 /// Four times a raw number to put a limit at: of a range, at its ends or just past them, at the pole or near it; often
@@ -177,30 +200,57 @@ fn inverse(number: i128, modulus: i128) -> i128 {
     one.1.rem_euclid(modulus)
 }
 
-/// Coefficients and a decimal that rounds to a raw number of a range whose value is that decimal, or so close to it that
-/// a quotient of 53 bits is the same: b·whole + c·ten is raw times e·whole + f·ten, and at most 2 away from it.
-fn close((lowest, highest): (i64, i64), rng: &mut Rng) -> Option<Steps> {
+/// A decimal that needs all its places, of any size or below 1: its whole number and its power.
+fn long_decimal(any: bool, rng: &mut Rng) -> (i128, u32) {
     let power = rng.range(3, 6) as u32;
-    let ten = 10i128.pow(power);
-    // A decimal that needs all its places; where it is above 1, e is smaller so that f is not too great.
-    let most = if rng.one_in(3) { MOST_ASKED } else { ten };
+    let most = if any { MOST_ASKED } else { 10i128.pow(power) };
     let size = 10 * rng.below(most as u64 / 10) as i128 + rng.pick(&[1, 3, 7, 9]);
-    let whole = either(size, rng);
+    (either(size, rng), power)
+}
+
+/// A raw number of a range, near one of its ends or any.
+fn raw_of((lowest, highest): (i64, i64), rng: &mut Rng) -> i128 {
     let raw = match rng.below(3) {
         0 => lowest + rng.below(100) as i64,
         1 => highest - rng.below(100) as i64,
         _ => lowest + rng.below((highest - lowest + 1) as u64) as i64,
     };
+    raw as i128
+}
+
+/// First and second with first·whole + second·ten = sum, the first at a number or a bit above it.
+fn split(sum: i128, from: i128, (whole, ten): (i128, i128)) -> (i128, i128) {
+    let first = from + (sum * inverse(whole, ten) - from).rem_euclid(ten);
+    (first, (sum - first * whole) / ten)
+}
+
+/// Coefficients and a decimal that rounds to a raw number of a range whose value is that decimal, or so close to it that
+/// a quotient of 53 bits is the same: b·whole + c·ten is raw times e·whole + f·ten, and at most 2 away from it.
+fn close(raws: (i64, i64), rng: &mut Rng) -> Option<Steps> {
+    let (whole, power) = long_decimal(rng.one_in(3), rng);
+    let (raw, ten) = (raw_of(raws, rng), 10i128.pow(power));
     let divisor = either(5 + rng.below(300) as i128, rng);
-    let product = raw as i128 * divisor + rng.pick(&[0, 1, 1, -1, -1, 2, -2]);
-    // First and second with first·whole + second·ten = sum, the first at a number or a bit above it.
-    let split = |sum: i128, from: i128| {
-        let first = from + (sum * inverse(whole, ten) - from).rem_euclid(ten);
-        (first, (sum - first * whole) / ten)
-    };
-    let from = either((MOST_ASKED - ten - rng.below(1000) as i128) * ten / ten.max(size), rng);
-    let (e, f) = split(divisor, from);
-    let (b, c) = split(product, rng.pick(&[0, 0, from / 2]));
+    let product = raw * divisor + rng.pick(&[0, 1, 1, -1, -1, 2, -2]);
+    // Where the decimal is above 1, e is smaller so that f is not too great.
+    let from = either((MOST_ASKED - ten - rng.below(1000) as i128) * ten / ten.max(whole.abs()), rng);
+    let (e, f) = split(divisor, from, (whole, ten));
+    let (b, c) = split(product, rng.pick(&[0, 0, from / 2]), (whole, ten));
+    Some(Steps { factors: [b, c, e, f], close: Some((whole as i64, power)) }).filter(|it| allowed(it.factors))
+}
+
+/// Coefficients and a decimal whose quotient lies half a step past a raw number of a range, or so close to it that a
+/// quotient of 53 bits is the same: twice b·whole + c·ten is 2·raw + 1 times e·whole + f·ten, and at most 1 away.
+fn half(raws: (i64, i64), rng: &mut Rng) -> Option<Steps> {
+    let (whole, power) = long_decimal(true, rng);
+    let (raw, ten) = (raw_of(raws, rng), 10i128.pow(power));
+    let most = MOST_ASKED * whole.abs() / (raw.abs() + 1);
+    let divisor = either((rng.below(most as u64) as i128 >> rng.below(12)) + 1, rng);
+    // An odd divisor, mostly: then it can't be a half exactly.
+    let divisor = if rng.one_in(4) { divisor } else { divisor | 1 };
+    let twice = (2 * raw + 1) * divisor;
+    let product = (twice + twice % 2 * rng.pick(&[1, -1])) / 2;
+    let (e, f) = split(divisor, divisor / whole, (whole, ten));
+    let (b, c) = split(product, product / whole, (whole, ten));
     Some(Steps { factors: [b, c, e, f], close: Some((whole as i64, power)) }).filter(|it| allowed(it.factors))
 }
 
@@ -221,8 +271,9 @@ pub fn made(raws: (i64, i64), rng: &mut Rng) -> Steps {
 /// Coefficients near the greatest, for raw numbers of a range; they keep their rule.
 pub fn great_made(raws: (i64, i64), rng: &mut Rng) -> Steps {
     loop {
-        let made = match rng.below(3) {
+        let made = match rng.below(5) {
             0 => Some(Steps { factors: wide(rng), close: None }),
+            1 | 2 => half(raws, rng),
             _ => close(raws, rng),
         };
         if let Some(steps) = made.filter(|it| allowed(it.factors)) {
@@ -252,6 +303,28 @@ mod tests {
             assert!(left <= 2 || under.abs() - left <= 2, "{left} of {under}");
         }
         assert!(found > 1000, "{found}");
+    }
+
+    #[test]
+    fn half_coefficients_lie_between_two_raw_numbers() {
+        let mut rng = Rng::new(8);
+        let (mut exact, mut close) = (0, 0);
+        for _ in 0..2000 {
+            let raws = rng.pick(&[(0, 255), (-32768, 32767), (0, u32::MAX as i64)]);
+            let Some(Steps { factors: [b, c, e, f], close: Some((whole, power)) }) = half(raws, &mut rng) else {
+                continue;
+            };
+            let (whole, ten) = (whole as i128, 10i128.pow(power));
+            let (top, under) = (b * whole + c * ten, e * whole + f * ten);
+            assert!(under != 0);
+            // How far twice the quotient is from an odd number.
+            let left = (2 * top - under.abs()).rem_euclid(2 * under.abs());
+            let far = left.min(2 * under.abs() - left);
+            assert!(far <= 1, "{far} of {under}");
+            exact += (far == 0) as u32;
+            close += (far == 1) as u32;
+        }
+        assert!(exact > 100 && close > 600, "{exact} {close}");
     }
 
     #[test]

@@ -1,6 +1,8 @@
 //! The few cells of the tables that the wrapper looks at itself.
+use crate::Edition;
 
-/// Where the element total, the objects and the groups stand, and how wide their records are.
+/// Where the edition, the element total, the objects and the groups stand, and how wide their records are.
+const EDITION: usize = 1;
 const ELEMENTS: usize = 3;
 const OBJECTS: usize = 4;
 const GROUPS: usize = OBJECTS + 1 + 3 * 512;
@@ -9,6 +11,14 @@ const GROUPS: usize = OBJECTS + 1 + 3 * 512;
 pub struct Layout<'a>(pub &'a [u64]);
 
 impl Layout<'_> {
+    /// The edition: 1 or 2, and no other in the tables of an accepted load.
+    pub fn edition(&self) -> Edition {
+        match self.0[EDITION] {
+            2 => Edition::Two,
+            _ => Edition::One,
+        }
+    }
+
     /// How many elements all objects have.
     pub fn elements(&self) -> usize {
         self.0[ELEMENTS] as usize

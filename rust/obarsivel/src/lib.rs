@@ -5,6 +5,8 @@
 //! step with the image: an element is found and read, written raw or physical, and
 //! the list is walked or printed.
 //!
+//! The tables keep the description's [`Edition`], by which a physical write rounds an exact half.
+//!
 //! ```
 //! use obarsivel::{Description, Part, Shown};
 //!
@@ -24,6 +26,25 @@
 //!     "refused 16: the asked value, or the value that would be stored, is outside the limits"
 //! );
 //! ```
+//!
+//! The same description in both editions:
+//!
+//! ```
+//! use obarsivel::{Description, Edition, Part};
+//!
+//! let text = r#"/begin PROJECT P "" /begin MODULE M ""
+//!   /begin RECORD_LAYOUT L FNC_VALUES 1 UWORD ROW_DIR DIRECT /end RECORD_LAYOUT
+//!   /begin COMPU_METHOD C "" RAT_FUNC "%6.3" "V" COEFFS 0 1000 0 0 0 1 /end COMPU_METHOD
+//!   /begin CHARACTERISTIC U_BATT "" VALUE 0x1000 L 0 C 0 20 /end CHARACTERISTIC
+//! /end MODULE /end PROJECT"#;
+//! for (edition, raw) in [(Edition::One, 11801), (Edition::Two, 11800)] {
+//!     let mut reader = Description::load_edition(text, [0x18, 0x2E], 0x1000, edition).unwrap();
+//!     reader.write_physical(0, Part::V, 0, "11.8005").unwrap();
+//!     assert_eq!(reader.lines().next().unwrap().raw, raw);
+//! }
+//! let refusal = Edition::try_from(3).unwrap_err();
+//! assert_eq!(refusal.to_string(), "refused 33: the edition is neither 1 nor 2");
+//! ```
 #![warn(missing_docs)]
 
 mod layout;
@@ -39,6 +60,30 @@ pub use refusal::{line_and_column, Located, Refusal};
 
 /// The way in: a description is loaded against an image.
 pub struct Description;
+
+/// A description's edition: how a physical write rounds a value exactly between two raw numbers.
+///
+/// Nothing else goes by it.
+#[derive(Clone, Copy, PartialEq, Eq, Debug)]
+pub enum Edition {
+    /// Halves away from zero.
+    One = 1,
+    /// Halves to the even neighbour.
+    Two = 2,
+}
+
+impl TryFrom<u32> for Edition {
+    type Error = Refusal;
+
+    /// The edition with a number; 33 if it is neither 1 nor 2.
+    fn try_from(number: u32) -> Result<Edition, Refusal> {
+        match number {
+            1 => Ok(Edition::One),
+            2 => Ok(Edition::Two),
+            _ => Err(Refusal { number: 33, place: 0 }),
+        }
+    }
+}
 
 /// One of the three parts of an object.
 #[derive(Clone, Copy, PartialEq, Eq, Debug)]
@@ -126,10 +171,20 @@ pub fn version() -> (u32, u32, u32) {
 }
 
 impl Description {
-    /// Reads a description against the image that stands at a base address, and makes its list.
+    /// Reads a description of edition 1 against the image that stands at a base address, and makes its list.
     ///
     /// A refusal's place is a byte of the description; [`Refusal::located`] gives its line and column.
     pub fn load(text: impl Into<Vec<u8>>, image: impl Into<Vec<u8>>, base: u32) -> Result<Reader, Refusal> {
+        Description::load_edition(text, image, base, Edition::One)
+    }
+
+    /// Reads a description of an edition as [`Description::load`] does.
+    pub fn load_edition(
+        text: impl Into<Vec<u8>>,
+        image: impl Into<Vec<u8>>,
+        base: u32,
+        edition: Edition,
+    ) -> Result<Reader, Refusal> {
         let (text, image) = (text.into(), image.into());
         let mut tables = vec![0; raw::TABLE_CELLS];
         let mut work = vec![0; raw::WORK_CELLS];
@@ -141,6 +196,7 @@ impl Description {
                 image.as_ptr(),
                 image.len(),
                 base,
+                edition as u32,
                 tables.as_mut_ptr(),
                 tables.len(),
                 work.as_mut_ptr(),
@@ -209,6 +265,11 @@ impl Reader {
     /// The address of the image's first byte.
     pub fn base(&self) -> u32 {
         self.base
+    }
+
+    /// The edition that the tables keep.
+    pub fn edition(&self) -> Edition {
+        Layout(&self.tables).edition()
     }
 
     /// How many objects there are.
@@ -338,7 +399,8 @@ impl Reader {
         })
     }
 
-    /// Writes the raw value nearest to an asked physical one, a decimal such as `-12.5` or `1.2E3`.
+    /// Writes the raw value nearest to an asked physical one, a decimal such as `-12.5` or `1.2E3`; exactly between
+    /// two of them, the one that the [`Edition`] says.
     ///
     /// The limits are for the asked value and for the value that would be stored, as its exact fraction: outside of
     /// them, or where the nearest raw value means no value, the write is refused with 16.

@@ -2,13 +2,14 @@
 //! OBARSIVEL_MOCK_BREAK (a number of [`BREAKS`]) makes one of them wrong on
 //! purpose, so that the comparison can be seen to notice.
 use crate::raw::{TABLE_CELLS, WORK_CELLS};
-use plain::{Decimal, Limits, Line, Rounded, Shown};
+use plain::{Decimal, Edition, Limits, Line, Refusal, Rounded, Shown};
 use std::borrow::Cow;
 use std::slice::{from_raw_parts, from_raw_parts_mut};
+use std::sync::atomic::{AtomicU64, Ordering::Relaxed};
 use std::sync::OnceLock;
 
 /// What OBARSIVEL_MOCK_BREAK breaks, from number 1.
-pub const BREAKS: [&str; 31] = [
+pub const BREAKS: [&str; 52] = [
     "a reference that leads nowhere is placed one byte on",
     "COLUMN_DIR is read as ROW_DIR",
     "after a write, lines of other elements are left stale",
@@ -40,7 +41,31 @@ pub const BREAKS: [&str; 31] = [
     "the number shifted into its mask is tested",
     "a write refused with 16 for the stored value has stored it",
     "a raw write is tested against the limits",
+    "edition 1 rounds halves to the even neighbour",
+    "edition 2 rounds halves away from zero",
+    "edition 2 rounds halves to the odd neighbour",
+    "edition 2 rounds halves below zero up",
+    "edition 2 rounds halves below zero away from zero",
+    "edition 2 takes more than half a step for a half",
+    "edition 2 takes for a half what 53 bits don't tell from one",
+    "edition 2 tests the limits on the number that edition 1 stores",
+    "edition 2 tests the type on the number that edition 1 stores",
+    "a physical write goes by the last load's edition, not by the tables'",
+    "a load puts edition 1 into the tables always",
+    "a load puts its edition into the size mark's cell, too",
+    "the table rule takes edition 3",
+    "the table rule takes edition 0",
+    "the table rule looks at the edition's lowest byte alone",
+    "33 is given before 20",
+    "a load refused with 33 has cleared the tables",
+    "a load refused with 33 has cleared its work cells",
+    "33 is given after the text's own refusals",
+    "a load takes its edition modulo 256",
+    "33 has a place",
 ];
+
+/// The last load's edition, for the break that goes by it.
+static LAST_EDITION: AtomicU64 = AtomicU64::new(1);
 
 /// Tells whether a number is the one to break.
 fn broken(number: u32) -> bool {
@@ -82,17 +107,27 @@ impl Columns<'_> {
     }
 }
 
-/// The lent tables, with the edition's cell cleared or every MEASUREMENT marked if that is to be broken.
+/// The edition that the table rule takes from its cell, in one of the ways to break it.
+fn lent_edition(cell: u64) -> u64 {
+    match cell {
+        1 | 2 => cell,
+        _ if broken(6) => 1,
+        3 if broken(44) => 2,
+        0 if broken(45) => 1,
+        _ if broken(46) => cell % 256,
+        _ => cell,
+    }
+}
+
+/// The lent tables, with the edition's cell put right or every MEASUREMENT marked if that is to be broken.
 fn lent(tables: &[u64]) -> Cow<'_, [u64]> {
-    if !broken(6) && !broken(15) || tables.len() < TABLE_CELLS {
+    if tables.len() < TABLE_CELLS || lent_edition(tables[1]) == tables[1] && !broken(15) {
         return Cow::Borrowed(tables);
     }
     let mut cells = tables.to_vec();
-    if broken(6) {
-        cells[1] = 0;
-        return Cow::Owned(cells);
-    }
-    for object in (0..tables[4].min(512) as usize).filter(|object| tables[5 + 3 * object + 2] == 10) {
+    cells[1] = lent_edition(tables[1]);
+    let measurement = |object: &usize| broken(15) && tables[5 + 3 * object + 2] == 10;
+    for object in (0..tables[4].min(512) as usize).filter(measurement) {
         cells[1542 + 19 * (3 * object + 2) + 10] = 1;
     }
     Cow::Owned(cells)
@@ -130,7 +165,38 @@ pub unsafe extern "C" fn obarsivel_version() -> u32 {
         .fold(0, |number, part| number * 256 + part.parse().unwrap_or(0))
 }
 
-/// Loads a description: 0, or place * 64 + the refusal's number.
+/// The plain reader's answer to a load, in one of the ways to break it.
+fn loaded(text: &[u8], image: &[u8], base: u32, edition: u32) -> Result<Vec<u64>, Refusal> {
+    let edition = if broken(51) { edition % 256 } else { edition };
+    let asked = if broken(50) && edition != 2 { 1 } else { edition };
+    let mut answer = plain::load(&lent_text(text), image, base, asked);
+    match &mut answer {
+        Ok(_) if asked != edition => return Err(Refusal { number: 33, place: 0 }),
+        Ok(cells) => {
+            for walk in (0..cells[1541] as usize).map(|group| 1542 + 19 * group + 7) {
+                if broken(2) && cells[walk] == 2 {
+                    cells[walk] = 0;
+                }
+            }
+            LAST_EDITION.store(cells[1], Relaxed);
+            if broken(42) {
+                cells[1] = 1;
+            }
+            if broken(43) {
+                cells[2] = cells[1];
+            }
+        }
+        Err(refusal) => match refusal.number {
+            5 if broken(19) && exponent_at(text, refusal.place) => refusal.number = 2,
+            7 if broken(1) => refusal.place += 1,
+            33 if broken(52) => refusal.place = text.len() + 1,
+            _ => {}
+        },
+    }
+    answer
+}
+
+/// Loads a description of an edition: 0, or place * 64 + the refusal's number.
 ///
 /// # Safety
 /// Every pointer is valid for the length after it.
@@ -141,6 +207,7 @@ pub unsafe extern "C" fn obarsivel_load(
     image: *const u8,
     image_len: usize,
     base: u32,
+    edition: u32,
     tables: *mut u64,
     tables_len: usize,
     work: *mut u64,
@@ -148,40 +215,28 @@ pub unsafe extern "C" fn obarsivel_load(
 ) -> u64 {
     let (text, image) = (from_raw_parts(text, text_len), from_raw_parts(image, image_len));
     let (tables, work) = (from_raw_parts_mut(tables, tables_len), from_raw_parts_mut(work, work_len));
+    if broken(47) && !(1..=2).contains(&edition) {
+        return 33;
+    }
     if tables_len < TABLE_CELLS || work_len < WORK_CELLS {
         return 20;
     }
-    let mut answer = plain::load(&lent_text(text), image, base);
-    if let Err(refusal) = &mut answer {
-        if refusal.number == 20 {
-            return 20;
-        }
-        if broken(19) && refusal.number == 5 && exponent_at(text, refusal.place) {
-            refusal.number = 2;
-        }
-    }
-    if !broken(9) {
+    let answer = loaded(text, image, base, edition);
+    // 20 and 33 leave everything as it was.
+    let number = answer.as_ref().map_or_else(|refusal| refusal.number, |_| 0);
+    let clears = |breaks: u32| number != 20 && (number != 33 || broken(breaks));
+    if clears(49) && !broken(9) {
         work.fill(0);
     }
+    if clears(48) && !(broken(8) && number != 0) {
+        tables.fill(0);
+    }
     match answer {
-        Ok(mut cells) => {
-            for group in 0..cells[1541] as usize {
-                let walk = 1542 + 19 * group + 7;
-                if broken(2) && cells[walk] == 2 {
-                    cells[walk] = 0;
-                }
-            }
-            tables.fill(0);
+        Ok(cells) => {
             tables[..cells.len()].copy_from_slice(&cells);
             0
         }
-        Err(refusal) => {
-            if !broken(8) {
-                tables.fill(0);
-            }
-            let place = refusal.place as u64 + (broken(1) && refusal.number == 7) as u64;
-            place * 64 + refusal.number as u64
-        }
+        Err(refusal) => refusal.place as u64 * 64 + refusal.number as u64,
     }
 }
 
@@ -394,6 +449,69 @@ fn stored_inside(rounded: &Rounded, mask: u64) -> bool {
     broken(21) || inside(rounded.limits, rounded.factors.physical(rounded.raw << shift))
 }
 
+/// The edition that a physical write over tables goes by, in one of the ways to break it.
+fn edition_of(tables: &[u64]) -> u64 {
+    if broken(41) {
+        LAST_EDITION.load(Relaxed)
+    } else {
+        tables[1]
+    }
+}
+
+/// The number that a quotient is rounded to in edition 2, in one of the ways to break it.
+fn rounded_by_2(rounded: &Rounded) -> i128 {
+    let (top, under) = rounded.quotient;
+    let (floor, left) = (top.div_euclid(under), top.rem_euclid(under));
+    let even = Edition::Two.round((2 * floor + 1, 2));
+    if broken(38) {
+        return (top as f64 / under as f64).round_ties_even() as i128;
+    }
+    if broken(37) && 2 * left > under {
+        return even;
+    }
+    match rounded.is_half() {
+        true if broken(33) || broken(36) && top < 0 => Edition::One.round(rounded.quotient),
+        true if broken(34) => 2 * floor + 1 - even,
+        true if broken(35) && top < 0 => floor + 1,
+        _ => Edition::Two.round(rounded.quotient),
+    }
+}
+
+/// Makes a physical write step by step, in one of the ways to break it.
+fn write_rounded(
+    lent: (&[u8], u32, &[u64]),
+    image: &mut [u8],
+    lines: &mut [Line],
+    (object, part, index): (u32, u8, u32),
+    asked: &[u8],
+) -> Result<(), u8> {
+    let (text, base, tables) = lent;
+    let mut rounded = plain::rounded(text, image, base, tables, lines, object, part, index, asked)?;
+    let by_1 = Edition::One.round(rounded.quotient);
+    rounded.raw = match edition_of(tables) {
+        2 => rounded_by_2(&rounded),
+        _ if broken(32) => Edition::Two.round(rounded.quotient),
+        _ => by_1,
+    };
+    if broken(23) && !rounded.inside() {
+        return Err(16);
+    }
+    let before = image.to_vec();
+    let numbers = if broken(40) { vec![by_1, rounded.raw] } else { vec![rounded.raw] };
+    for raw in numbers {
+        plain::write_raw(text, image, base, tables, lines, object, part, index, raw as i64)
+            .inspect_err(|_| image.copy_from_slice(&before))?;
+    }
+    rounded.raw = if broken(39) { by_1 } else { rounded.raw };
+    if stored_inside(&rounded, tables[1542 + 19 * (3 * object as usize + part as usize) + 9]) {
+        return Ok(());
+    }
+    if !broken(30) {
+        image.copy_from_slice(&before);
+    }
+    Err(16)
+}
+
 /// The limits of a part.
 fn limits_of(tables: &[u64], object: u32, part: u8) -> Limits {
     let cells = &tables[1542 + 19 * (3 * object as usize + part as usize) + 11..][..6];
@@ -503,22 +621,10 @@ pub unsafe extern "C" fn obarsivel_write_physical(
         }
         let before = asked.iter().take_while(|byte| !matches!(byte, b'E' | b'e')).filter(|byte| byte.is_ascii_digit());
         let asked = if broken(20) && before.count() > 10 { b"" } else { asked };
-        if !(21..=30).any(broken) {
-            return plain::write_physical(text, image, base, &tables, lines, object, part, index, asked);
+        if (21..=41).any(broken) {
+            return write_rounded((text, base, &tables), image, lines, (object, part, index), asked);
         }
-        let rounded = plain::rounded(text, image, base, &tables, lines, object, part, index, asked)?;
-        if broken(23) && !rounded.inside() {
-            return Err(16);
-        }
-        let before = image.to_vec();
-        plain::write_raw(text, image, base, &tables, lines, object, part, index, rounded.raw as i64)?;
-        if stored_inside(&rounded, tables[1542 + 19 * (3 * object as usize + part as usize) + 9]) {
-            return Ok(());
-        }
-        if !broken(30) {
-            image.copy_from_slice(&before);
-        }
-        Err(16)
+        plain::write_physical(text, image, base, &tables, lines, object, part, index, asked)
     };
     write(image, &mut columns, call, own)
 }

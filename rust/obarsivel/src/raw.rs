@@ -16,13 +16,14 @@ extern "C" {
     /// The archive's version: major * 65536 + minor * 256 + patch.
     pub fn obarsivel_version() -> u32;
 
-    /// Loads a description: 0, or place * 64 + the refusal's number.
+    /// Loads a description of an edition: 0, or place * 64 + the refusal's number.
     pub fn obarsivel_load(
         text: *const u8,
         text_len: usize,
         image: *const u8,
         image_len: usize,
         base: u32,
+        edition: u32,
         tables: *mut u64,
         tables_len: usize,
         work: *mut u64,

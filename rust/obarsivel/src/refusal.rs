@@ -1,12 +1,12 @@
 //! Refusals: their number, their place, and both in words.
 use std::fmt;
 
-/// A refusal: its number in document 01's table and, for a load, its byte place in the description.
+/// A refusal: its number in documents 01 and 02 and, for a load, its byte place in the description.
 #[derive(Clone, Copy, PartialEq, Eq, Debug)]
 pub struct Refusal {
-    /// The number, 1 to 22.
+    /// The number: 1 to 22, or 33.
     pub number: u8,
-    /// The first byte of the offending token; 0 for refusals outside a load.
+    /// The first byte of the offending token; 0 for 20, for 33 and outside a load.
     pub place: usize,
 }
 
@@ -50,6 +50,7 @@ impl Refusal {
             20 => "a lent buffer is too short, text or image too long, or base plus image above 2^32",
             21 => "a MEASUREMENT or READ_ONLY",
             22 => "a lent table breaks the table rule",
+            33 => "the edition is neither 1 nor 2",
             _ => "an unknown refusal",
         }
     }

@@ -1,5 +1,5 @@
 //! The wrapper's own doings: refusals in words, places, lines, parts, the listing's room.
-use obarsivel::{line_and_column, version, Description, Part, Physical, Refusal, Shown};
+use obarsivel::{line_and_column, raw, version, Description, Edition, Part, Physical, Refusal, Shown};
 
 /// A map with stored axes (COLUMN_DIR, y turned) and a verbal value.
 const TEXT: &str = r#"/begin PROJECT P "" /begin MODULE M ""
@@ -84,6 +84,78 @@ fn limits_are_for_what_gets_stored() {
 }
 
 #[test]
+fn two_editions() {
+    let text = r#"/begin PROJECT P "" /begin MODULE M ""
+        /begin RECORD_LAYOUT L FNC_VALUES 1 UBYTE ROW_DIR DIRECT /end RECORD_LAYOUT
+        /begin CHARACTERISTIC V "" VALUE 0 L 0 NO_COMPU_METHOD -1 255 /end CHARACTERISTIC
+        /begin CHARACTERISTIC W "" VALUE 1 L 0 NO_COMPU_METHOD 0 2.9 /end CHARACTERISTIC
+        /end MODULE /end PROJECT"#;
+    // Object, asked value, and the byte that it stores or its refusal in edition 1 and in edition 2.
+    let writes = [
+        (0, "0.5", Ok(1), Ok(0)),
+        (0, "1.5", Ok(2), Ok(2)),
+        (0, "2.5", Ok(3), Ok(2)),
+        (0, "-0.5", Err(18), Ok(0)),
+        (0, "2.500001", Ok(3), Ok(3)),
+        (1, "2.5", Err(16), Ok(2)),
+    ];
+    for (object, asked, one, two) in writes {
+        for (edition, wanted) in [(Edition::One, one), (Edition::Two, two)] {
+            let mut reader = Description::load_edition(text, [9, 9], 0, edition).unwrap();
+            assert_eq!(reader.edition(), edition);
+            let answer = reader.write_physical(object, Part::V, 0, asked).map_err(|refusal| refusal.number);
+            let stored = reader.image()[object as usize];
+            assert_eq!(answer.map(|()| stored), wanted, "{asked} in {edition:?}");
+        }
+    }
+    assert_eq!(Description::load(text, [9, 9], 0).unwrap().edition(), Edition::One);
+}
+
+#[test]
+fn editions_by_number() {
+    assert_eq!((Edition::One as u32, Edition::Two as u32), (1, 2));
+    assert_eq!([Edition::try_from(1), Edition::try_from(2)], [Ok(Edition::One), Ok(Edition::Two)]);
+    for number in [0, 3, 255, 257, 1 << 31, u32::MAX] {
+        let refusal = Edition::try_from(number).unwrap_err();
+        assert_eq!(refusal, Refusal { number: 33, place: 0 });
+        assert_eq!(refusal.to_string(), "refused 33: the edition is neither 1 nor 2");
+        assert_eq!(refusal.located(b"x").to_string(), refusal.to_string());
+    }
+}
+
+#[test]
+fn the_load_itself_refuses_other_editions() {
+    let text = TEXT.as_bytes();
+    let load = |edition: u32, base: u32| {
+        let mut tables = vec![5; raw::TABLE_CELLS];
+        let mut work = vec![6; raw::WORK_CELLS];
+        // SAFETY: every pointer is a slice's with its own length.
+        let answer = unsafe {
+            raw::obarsivel_load(
+                text.as_ptr(),
+                text.len(),
+                IMAGE.as_ptr(),
+                IMAGE.len(),
+                base,
+                edition,
+                tables.as_mut_ptr(),
+                tables.len(),
+                work.as_mut_ptr(),
+                work.len(),
+            )
+        };
+        let untouched = tables.iter().all(|&cell| cell == 5) && work.iter().all(|&cell| cell == 6);
+        (answer, untouched, [tables[1], tables[2]])
+    };
+    assert_eq!(load(1, 0), (0, false, [1, 0]));
+    assert_eq!(load(2, 0), (0, false, [2, 0]));
+    for edition in [0, 3, 255, 257, 258, u32::MAX] {
+        assert_eq!(load(edition, 0), (33, true, [5, 5]), "{edition}");
+        assert_eq!(load(edition, u32::MAX), (20, true, [5, 5]), "{edition}");
+    }
+}
+
+#[test]
 fn refusals_in_words_and_places() {
     let text = TEXT.replace("COMPU_TAB_REF T", "COMPU_TAB_REF U");
     let refusal = Description::load(text.as_str(), IMAGE, 0).err().unwrap();
@@ -104,7 +176,7 @@ fn refusals_in_words_and_places() {
     let sizes = Description::load(TEXT, [0; 2], u32::MAX).err().unwrap();
     assert_eq!(sizes.number, 20);
     assert!(sizes.to_string().starts_with("refused 20: a lent buffer is too short"));
-    let numbers = 1..=22;
+    let numbers = (1..=22).chain([33]);
     assert!(numbers.map(|number| Refusal { number, place: 0 }).all(|it| it.reason() != "an unknown refusal"));
 }
 

@@ -39,7 +39,7 @@ fn main() {
     let text = big();
     let mut image = vec![7; 1 << 20];
     println!("{} bytes", text.len());
-    let cells = time("load", 5, || load(&text, &image, 0)).unwrap();
+    let cells = time("load", 5, || load(&text, &image, 0, 1)).unwrap();
     let mut lines = vec![Line::default(); 4096];
     time("keeps_rule", 1000, || keeps_rule(&cells, text.len(), image.len()));
     time("find", 1000, || find(&text, &image, 0, &cells, b"DEVICE.PREFIX.LONG.NAME_511")).unwrap();

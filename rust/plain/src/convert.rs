@@ -1,7 +1,50 @@
-//! Conversions: the four whole coefficients, raw to fraction, asked value to raw.
+//! Conversions: the four whole coefficients, raw to fraction, asked value to raw by the edition's rule on halves.
 use crate::model::{Conversion, Model};
 use crate::number::{ten_to, Decimal};
 use crate::{refuse, Refusal};
+use std::cmp::Ordering;
+
+/// A description's edition, which says how a physical write rounds an exact half.
+#[derive(Clone, Copy, PartialEq, Eq, Debug)]
+pub enum Edition {
+    /// Halves away from zero.
+    One = 1,
+    /// Halves to the even neighbour.
+    Two = 2,
+}
+
+impl Edition {
+    /// The edition with a number, if there is one.
+    pub fn from_number(number: u64) -> Option<Edition> {
+        match number {
+            1 => Some(Edition::One),
+            2 => Some(Edition::Two),
+            _ => None,
+        }
+    }
+
+    /// The whole number nearest to a fraction whose divisor is above zero, an exact half by the edition's rule.
+    pub fn round(self, (top, under): (i128, i128)) -> i128 {
+        let floor = top.div_euclid(under);
+        let left = top - floor * under;
+        let up = match ((2 * left).cmp(&under), self) {
+            (Ordering::Less, _) => false,
+            (Ordering::Greater, _) => true,
+            (Ordering::Equal, Edition::One) => top > 0,
+            (Ordering::Equal, Edition::Two) => floor % 2 != 0,
+        };
+        floor + up as i128
+    }
+}
+
+/// A fraction with its divisor above zero; none for divisor 0.
+fn fraction(top: i128, under: i128) -> Option<(i128, i128)> {
+    match under {
+        0 => None,
+        _ if under < 0 => Some((-top, -under)),
+        _ => Some((top, under)),
+    }
+}
 
 /// The four coefficients b, c, e, f made whole.
 #[derive(Clone, Copy, PartialEq, Eq, Debug)]
@@ -24,25 +67,13 @@ impl Factors {
 
     /// The fraction that a raw value means, its divisor above zero; none for divisor 0.
     pub fn physical(self, raw: i128) -> Option<(i128, i128)> {
-        let top = self.f * raw - self.c;
-        let under = self.b - self.e * raw;
-        match under {
-            0 => None,
-            _ if under < 0 => Some((-top, -under)),
-            _ => Some((top, under)),
-        }
+        fraction(self.f * raw - self.c, self.b - self.e * raw)
     }
 
-    /// The raw value nearest to an asked one, halves away from zero; none if no raw exists.
-    pub fn raw(self, asked: Decimal) -> Option<i128> {
+    /// The quotient that an asked value gives before it is rounded, its divisor above zero; none if no raw exists.
+    pub fn quotient(self, asked: Decimal) -> Option<(i128, i128)> {
         let (whole, ten) = (asked.signed(), ten_to(asked.power));
-        let top = self.b * whole + self.c * ten;
-        let under = self.e * whole + self.f * ten;
-        if under == 0 {
-            return None;
-        }
-        let size = (2 * top.abs() + under.abs()) / (2 * under.abs());
-        Some(if (top < 0) != (under < 0) { -size } else { size })
+        fraction(self.b * whole + self.c * ten, self.e * whole + self.f * ten)
     }
 }
 

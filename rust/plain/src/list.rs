@@ -22,15 +22,23 @@ pub enum Shown {
     Nothing,
 }
 
-/// What a physical write would store: the rounded raw number, with its part's coefficients and limits.
+/// What a physical write would store: the quotient and the raw number it is rounded to, with its part's coefficients
+/// and limits.
 #[derive(Clone, Copy, PartialEq, Eq, Debug)]
 pub struct Rounded {
+    pub quotient: (i128, i128),
     pub raw: i128,
     pub factors: Factors,
     pub limits: Limits,
 }
 
 impl Rounded {
+    /// Tells whether the quotient lies exactly between two whole numbers: the edition decides.
+    pub fn is_half(&self) -> bool {
+        let (top, under) = self.quotient;
+        2 * top % under == 0 && top % under != 0
+    }
+
     /// The value that the rounded number means, if it means one.
     pub fn value(&self) -> Option<(i128, i128)> {
         self.factors.physical(self.raw)
@@ -285,7 +293,7 @@ fn store(image: &mut [u8], cells: &[u64], lines: &mut [Line], part: &Part, index
     }
 }
 
-/// Rounds an asked value to what would be stored in a part: 15, 16 for the asked value, 17.
+/// Rounds an asked value by the tables' edition to what would be stored in a part: 15, 16 for the asked value, 17.
 fn round(part: &Part, cells: &[u64], asked: &[u8]) -> Result<Rounded, u8> {
     let Meaning::Fraction(factors) = part.meaning(cells) else {
         return Err(15);
@@ -296,10 +304,13 @@ fn round(part: &Part, cells: &[u64], asked: &[u8]) -> Result<Rounded, u8> {
     let Some(limits) = limits_of(part.cells).filter(|it| it.lower.at_most(asked) && asked.at_most(it.upper)) else {
         return Err(16);
     };
-    let Some(raw) = factors.raw(asked) else {
+    let Some(quotient) = factors.quotient(asked) else {
         return Err(17);
     };
-    Ok(Rounded { raw, factors, limits })
+    let Some(edition) = edition(cells) else {
+        return Err(22);
+    };
+    Ok(Rounded { quotient, raw: edition.round(quotient), factors, limits })
 }
 
 /// What a physical write would store, as far as it comes before 18 and before 16 for the stored value; nothing is

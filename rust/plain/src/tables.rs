@@ -1,5 +1,5 @@
 //! The lent tables: their form, how a load fills them, and the table rule.
-use crate::convert::Factors;
+use crate::convert::{Edition, Factors};
 use crate::model::*;
 use crate::number::Decimal;
 use crate::place::Groups;
@@ -25,7 +25,9 @@ pub const ENTRIES: usize = TABLES + 1 + TABLE_WIDTH * MOST_TABLES;
 /// How many cells the tables have at full capacity.
 pub const CELLS: usize = ENTRIES + 1 + ENTRY_WIDTH * MOST_ENTRIES;
 
-/// The cell that holds how many elements all objects have.
+/// The head's cells: the edition, the size mark, how many elements all objects have.
+const EDITION: usize = HEAD + 1;
+const MARK: usize = HEAD + 2;
 const ELEMENTS: usize = HEAD + 3;
 
 /// The kinds of conversion in a method's first cell.
@@ -43,6 +45,11 @@ pub fn sizes_fit(text_len: usize, image_len: usize, base: u32) -> bool {
 pub fn record(cells: &[u64], section: usize, width: usize, number: usize) -> &[u64] {
     let from = section + 1 + width * number;
     &cells[from..from + width]
+}
+
+/// The edition that the tables hold, if it is one.
+pub fn edition(cells: &[u64]) -> Option<Edition> {
+    Edition::from_number(cells[EDITION])
 }
 
 /// How many elements the tables' own header says.
@@ -114,11 +121,11 @@ fn method_cells(model: &Model, method: &Method, factors: Option<Factors>) -> [u6
 }
 
 /// The tables of an accepted load.
-pub fn build(model: &Model, factors: &[Option<Factors>], groups: &[Groups]) -> Vec<u64> {
+pub fn build(model: &Model, factors: &[Option<Factors>], groups: &[Groups], edition: Edition) -> Vec<u64> {
     let mut cells = vec![0; CELLS];
     let stored = groups.iter().flatten().flatten();
     let elements = stored.map(|group| group.points[0] * group.points[1]).sum();
-    fill(&mut cells, HEAD, &[[0, 0, elements]]);
+    fill(&mut cells, HEAD, &[[edition as u64, 0, elements]]);
     let objects: Vec<_> = model
         .objects
         .iter()
@@ -290,7 +297,7 @@ pub fn keeps_rule(cells: &[u64], text_len: usize, image_len: usize) -> bool {
         && section_fits(cells, METHODS, METHOD_WIDTH, MOST_METHODS)
         && section_fits(cells, TABLES, TABLE_WIDTH, MOST_TABLES)
         && section_fits(cells, ENTRIES, ENTRY_WIDTH, MOST_ENTRIES);
-    if !fit || cells[HEAD] != 1 || cells[HEAD + 1] != 0 || cells[HEAD + 2] != 0 {
+    if !fit || cells[HEAD] != 1 || edition(cells).is_none() || cells[MARK] != 0 {
         return false;
     }
     if cells[GROUPS] != 3 * cells[OBJECTS] {

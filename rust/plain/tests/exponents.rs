@@ -67,7 +67,7 @@ fn read_as(run: &str) -> Option<[u64; 3]> {
         "/begin MEASUREMENT A \"\" UBYTE NO_COMPU_METHOD 0 0 {run} 9999999999 ECU_ADDRESS 0x1000 /end MEASUREMENT"
     ));
     let place = text.find(" 9999999999 ECU").unwrap() - run.len();
-    match load(text.as_bytes(), &ZEROS, BASE) {
+    match load(text.as_bytes(), &ZEROS, BASE, 1) {
         Ok(cells) => Some([11, 12, 13].map(|cell| cells[GROUPS + 38 + cell])),
         Err(refusal) => {
             assert_eq!(refusal, Refusal { number: 2, place }, "{run:.80}");

@@ -76,7 +76,7 @@ fn p10_curve_places() {
     assert_eq!(v, [1, 0, 8, 3, 1, 3, 1, 0, 0, 0, 0, 0, 0, 0, 0, 100, 0, 0, 0]);
     assert_eq!(set.rows(), ["O x 0 1 1/1", "O x 1 2 2/1", "O x 2 3 3/1", "O v 0 7 7/1", "O v 1 8 8/1", "O v 2 9 9/1"]);
     let text = module(&body);
-    assert_eq!(load(text.as_bytes(), &image[..10], BASE).err().map(|it| it.number), Some(12));
+    assert_eq!(load(text.as_bytes(), &image[..10], BASE, 1).err().map(|it| it.number), Some(12));
 }
 
 #[test]

@@ -481,8 +481,8 @@ fn reading_43_44_total_before_bytes_and_no_wrap() {
     refused_in(12, &block("^A", 4096));
     let text = module(&block("A", 2));
     let place = text.find(" A ").unwrap() + 1;
-    assert_eq!(load(text.as_bytes(), &[0; 16], 0).err(), Some(Refusal { number: 12, place }));
-    assert_eq!(load(text.as_bytes(), &[0; 16], 0xFFFFFFF0).err(), Some(Refusal { number: 12, place }));
+    assert_eq!(load(text.as_bytes(), &[0; 16], 0, 1).err(), Some(Refusal { number: 12, place }));
+    assert_eq!(load(text.as_bytes(), &[0; 16], 0xFFFFFFF0, 1).err(), Some(Refusal { number: 12, place }));
 }
 
 #[test]

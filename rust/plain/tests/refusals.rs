@@ -427,10 +427,10 @@ fn numbers_12_and_13_counts() {
 #[test]
 fn number_20_sizes() {
     let refusal = Some(Refusal { number: 20, place: 0 });
-    assert_eq!(load(&vec![b' '; (16 << 20) + 1], &[], 0).err(), refusal);
-    assert_eq!(load(b"", &vec![0; (1 << 20) + 1], 0).err(), refusal);
-    assert_eq!(load(b"", &[0, 0], u32::MAX).err(), refusal);
-    assert_eq!(load(b"", &[0], u32::MAX).err(), Some(Refusal { number: 3, place: 0 }));
+    assert_eq!(load(&vec![b' '; (16 << 20) + 1], &[], 0, 1).err(), refusal);
+    assert_eq!(load(b"", &vec![0; (1 << 20) + 1], 0, 1).err(), refusal);
+    assert_eq!(load(b"", &[0, 0], u32::MAX, 1).err(), refusal);
+    assert_eq!(load(b"", &[0], u32::MAX, 1).err(), Some(Refusal { number: 3, place: 0 }));
     let full = 16 << 20;
-    assert_eq!(load(&vec![b' '; full], &vec![0; 1 << 20], 0).err(), Some(Refusal { number: 3, place: full }));
+    assert_eq!(load(&vec![b' '; full], &vec![0; 1 << 20], 0, 1).err(), Some(Refusal { number: 3, place: full }));
 }

@@ -36,7 +36,7 @@ fn rich() -> Set {
 #[test]
 fn the_cells_of_a_load() {
     let set = rich();
-    assert_eq!(set.cells[..4], [1, 0, 0, 3 + 2 + 6 + 3 + 1 + 1]);
+    assert_eq!(set.cells[..4], [1, 1, 0, 3 + 2 + 6 + 3 + 1 + 1]);
     assert_eq!(set.cells[OBJECTS], 4);
     let kinds: Vec<_> = (0..4).map(|number| set.cells[OBJECTS + 3 + 3 * number]).collect();
     assert_eq!(kinds, [18, 7, 15, 10]);
@@ -73,7 +73,9 @@ fn every_clause_of_the_rule() {
     let breaks = [
         (0, 0),
         (0, 2),
-        (1, 1),
+        (1, 0),
+        (1, 3),
+        (1, u64::MAX),
         (2, 1),
         (3, 15),
         (3, 17),
@@ -162,6 +164,7 @@ fn every_clause_of_the_rule() {
         assert!(!keeps(cell, value), "cell {cell} value {value}");
     }
     let holds = [
+        (1, 2),
         (group(0, 1), 1),
         (group(0, 2), image_len - 6),
         (group(0, 7), 0),
@@ -523,7 +526,7 @@ fn shaken_texts_never_break_the_rule() {
                 }
             }
         }
-        match load(&text, &set.image, BASE) {
+        match load(&text, &set.image, BASE, 1) {
             Ok(cells) => {
                 accepted += 1;
                 assert!(keeps_rule(&cells, text.len(), set.image.len()));

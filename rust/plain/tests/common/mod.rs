@@ -25,7 +25,7 @@ pub fn unmark(text: &[u8]) -> (Vec<u8>, usize) {
 /// Asserts that a marked text is refused with a number at its mark, over an image.
 pub fn refused_over(number: u8, text: impl AsRef<[u8]>, image: &[u8]) {
     let (text, place) = unmark(text.as_ref());
-    let found = load(&text, image, BASE);
+    let found = load(&text, image, BASE, 1);
     let shown = String::from_utf8_lossy(&text).into_owned();
     assert_eq!(found.err(), Some(Refusal { number, place }), "{shown}");
 }
@@ -42,8 +42,13 @@ pub fn refused_in(number: u8, body: &str) {
 
 /// Asserts that a text is accepted over an image, and that its tables keep the rule.
 pub fn accepted_over(text: impl AsRef<[u8]>, image: &[u8]) -> Vec<u64> {
+    accepted_edition(text, image, 1)
+}
+
+/// Asserts that a text of an edition is accepted over an image, and that its tables keep the rule.
+pub fn accepted_edition(text: impl AsRef<[u8]>, image: &[u8], edition: u32) -> Vec<u64> {
     let text = text.as_ref();
-    match load(text, image, BASE) {
+    match load(text, image, BASE, edition) {
         Ok(cells) => {
             assert_eq!(cells.len(), CELLS);
             assert!(keeps_rule(&cells, text.len(), image.len()));
@@ -74,8 +79,13 @@ pub struct Set {
 impl Set {
     /// Loads a MODULE content over an image and makes its list.
     pub fn new(body: &str, image: &[u8]) -> Set {
+        Set::of_edition(body, image, 1)
+    }
+
+    /// Loads a MODULE content of an edition over an image and makes its list.
+    pub fn of_edition(body: &str, image: &[u8], edition: u32) -> Set {
         let text = module(body).into_bytes();
-        let cells = accepted_over(&text, image);
+        let cells = accepted_edition(&text, image, edition);
         let mut set = Set { text, image: image.to_vec(), lines: vec![Line::default(); cells[3] as usize], cells };
         set.lines = set.fresh();
         set

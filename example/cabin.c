@@ -54,7 +54,7 @@ int main(int argc, char **argv) {
     text_len = read_file(argv[1], text, sizeof text);
     image_len = read_file(argv[2], image, sizeof image);
 
-    uint64_t loaded = obarsivel_load(text, text_len, image, image_len, BASE, tables, OBARSIVEL_TABLE_CELLS, work, OBARSIVEL_WORK_CELLS);
+    uint64_t loaded = obarsivel_load(text, text_len, image, image_len, BASE, OBARSIVEL_EDITION_1, tables, OBARSIVEL_TABLE_CELLS, work, OBARSIVEL_WORK_CELLS);
     if (loaded != 0) {
         printf("refused %u at %u\n", OBARSIVEL_LOAD_NUMBER(loaded), OBARSIVEL_LOAD_PLACE(loaded));
         return 1;

@@ -20,11 +20,12 @@
  *                      base + image_len is at most 2^32
  *   tables, tables_len what obarsivel_load has filled, 36,617 cells or more
  *
- * Refusals. 20 comes first and leaves everything untouched. 22, a table that
- * breaks rules 11.1 to 11.10, comes next in every call after the load. No
- * refusal touches image or list (rule 1.3). Each number has a constant below.
- * Its reason is worded as in docs/refusals.tsv, and rules 12.1 to 12.22 say of
- * each, by its number, where its place is and which rules it answers to:
+ * Refusals. 20 comes first and leaves everything untouched; in a load 33 comes
+ * next and does so too. 22, a table that breaks rules 11.1 to 11.10, comes next
+ * in every call after the load. No refusal touches image or list (rule 1.3).
+ * Each number has a constant below. Its reason is worded as in
+ * docs/refusals.tsv, and rules 12.1 to 12.22 and 12.33 say of each, by its
+ * number, where its place is and which rules it answers to:
  *    1 a token that the rules don't allow, or unclosed
  *    2 a number outside its form
  *    3 begin and end don't match, too deep, text ends early, or text after
@@ -54,6 +55,7 @@
  *      above 2^32
  *   21 a MEASUREMENT or READ_ONLY
  *   22 a lent table breaks the table rule
+ *   33 the edition is neither 1 nor 2
  */
 #ifndef OBARSIVEL_H
 #define OBARSIVEL_H
@@ -67,12 +69,12 @@ extern "C" {
 
 /* The version of this header. */
 #define OBARSIVEL_VERSION_MAJOR 0
-#define OBARSIVEL_VERSION_MINOR 2
+#define OBARSIVEL_VERSION_MINOR 3
 #define OBARSIVEL_VERSION_PATCH 0
 #define OBARSIVEL_VERSION \
     (OBARSIVEL_VERSION_MAJOR * 65536 + OBARSIVEL_VERSION_MINOR * 256 + OBARSIVEL_VERSION_PATCH)
 
-/* The refusals' numbers: the last part of rules 12.1 to 12.22. */
+/* The refusals' numbers: the last part of rules 12.1 to 12.22 and 12.33. */
 #define OBARSIVEL_REFUSED_TOKEN 1
 #define OBARSIVEL_REFUSED_NUMBER 2
 #define OBARSIVEL_REFUSED_BLOCKS 3
@@ -95,6 +97,7 @@ extern "C" {
 #define OBARSIVEL_REFUSED_SIZES 20
 #define OBARSIVEL_REFUSED_READ_ONLY 21
 #define OBARSIVEL_REFUSED_TABLES 22
+#define OBARSIVEL_REFUSED_EDITION 33
 
 /* The number and the place of a refused load, out of what obarsivel_load
  * answers (rule 13.2). */
@@ -112,6 +115,13 @@ extern "C" {
 
 /* The most elements that all objects can have (rule 6.5). */
 #define OBARSIVEL_MOST_ELEMENTS 4096
+
+/* The editions (rule 9.18): a physical write rounds an exact half away from
+ * zero in the first, to the even neighbour in the second (rule 8.11). The
+ * tables' cell that holds the edition. */
+#define OBARSIVEL_EDITION_1 1
+#define OBARSIVEL_EDITION_2 2
+#define OBARSIVEL_EDITION_CELL 1
 
 /* An object's parts (rule 9.10). */
 #define OBARSIVEL_PART_X 0
@@ -132,17 +142,19 @@ uint32_t obarsivel_version(void);
 
 /* Reads a description against an image: accepted exactly if the rules are kept
  * (rule 1.6), judged in the order of rules 9.2 to 9.7.
+ *   edition 1 or 2, which the tables keep for the physical writes (rule 9.18);
+ *           another number is 33, directly after 20
  *   tables  36,617 cells or more; any content before. Accepted: filled, cells
- *           past 36,617 zero. Refused: all zero, but with 20 untouched.
+ *           past 36,617 zero. Refused: all zero, but with 20 and 33 untouched.
  *   work    42,578 cells or more; any content before; zero after, but with 20
- *           untouched. It need not be kept.
- * Answers 0 (accepted), or place * 64 + number with number 1 to 13 or 20
+ *           and 33 untouched. It need not be kept.
+ * Answers 0 (accepted), or place * 64 + number with number 1 to 13, 20 or 33
  * (OBARSIVEL_LOAD_NUMBER, OBARSIVEL_LOAD_PLACE; rule 13.2). The place is the
- * refusal's first byte in the description, 0 with 20 (rules 9.4 and 9.5). What
- * tables and work hold after it: rule 9.8. */
+ * refusal's first byte in the description, 0 with 20 and 33 (rules 9.4 and
+ * 9.5). What tables and work hold after it: rule 9.8. */
 uint64_t obarsivel_load(const uint8_t *text, size_t text_len,
                         const uint8_t *image, size_t image_len, uint32_t base,
-                        uint64_t *tables, size_t tables_len,
+                        uint32_t edition, uint64_t *tables, size_t tables_len,
                         uint64_t *work, size_t work_len);
 
 /* Finds the first object that bears a name (rule 9.11).

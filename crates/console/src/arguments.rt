@@ -1,12 +1,12 @@
 // The program's arguments: the command, the base address, the edition, an element's part and index.
+use crate::called::edition_at;
+use crate::called::has_edition;
+use crate::called::is_same;
+use crate::called::minus;
+use crate::called::word_at;
+use crate::called::word_count;
 use crate::sizes::WORD_ROOM;
 use crate::sizes::front;
-use crate::words::edition_at;
-use crate::words::has_edition;
-use crate::words::is_same;
-use crate::words::minus;
-use crate::words::word_at;
-use crate::words::word_count;
 use convert::edition::EDITION_ONE;
 use number::whole::WholeAnswer;
 use runs::whole::whole_of;

@@ -1,13 +1,13 @@
 // How the program is called.
 use crate::arguments::COMMAND;
 use crate::arguments::Command;
+use crate::called::word_at;
 use crate::ending::Ending;
 use crate::ending::complain;
 use crate::ending::heard;
 use crate::message::error_about;
 use crate::sizes::WORD_ROOM;
 use crate::sizes::front;
-use crate::words::word_at;
 use libc::STDERR_FILENO;
 use libc::STDOUT_FILENO;
 

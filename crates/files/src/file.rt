@@ -1,9 +1,9 @@
 // Reading the files that the arguments name.
+use console::called::word_at;
 use console::ending::Ending;
 use console::message::error_about;
 use console::sizes::WORD_ROOM;
 use console::sizes::front;
-use console::words::word_at;
 
 pub enum FileRead {
     Bytes(usize),

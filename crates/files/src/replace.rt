@@ -22,11 +22,11 @@ use crate::path::folder_bytes;
 use crate::status::Status;
 use crate::status::status_of;
 use console::arguments::IMAGE;
+use console::called::word_at;
 use console::ending::Ending;
 use console::message::error_about;
 use console::sizes::WORD_ROOM;
 use console::sizes::front;
-use console::words::word_at;
 use libc::PATH_MAX;
 
 // The bits of a mode: that someone may write, and all that are set by hand.

@@ -1,5 +1,5 @@
-use Rattle.console.proofs.words.is_same.Statement.{statement}
-use Rattle.console.proofs.words.is_same.Tie as tie
+use Rattle.console.proofs.called.is_same.Statement.{statement}
+use Rattle.console.proofs.called.is_same.Tie as tie
 use borrow.Author.Needs.{needs}
 use Prim.Native.Nat.{_-_}
 use lib.ListN.{length}

@@ -1,4 +1,6 @@
 // The command `apply`: a file of requests, a line each. Nothing of the reader rests on it.
+#![tactic(auto)]
+
 use console::arguments::REQUESTS;
 use console::ending::{Ending, complain, complain_number, say, say_number};
 use console::message::{error_about, refused, refused_size};
@@ -35,7 +37,7 @@ const DONE: u8 = 0;
 const NO_REQUEST: u8 = 255;
 
 // A request without its value, or what is wrong with it.
-#[derive(Drop)]
+#[derive(Clone, Copy)]
 pub enum Request {
     To {
         object: u32,

@@ -6,7 +6,7 @@ ghost use Rattle.ask.specs.Spot.{line_number, column_at};
 const LF: u8 = 10;
 
 // A line and a column, both from 1.
-#[derive(Drop)]
+#[derive(Clone, Copy)]
 pub struct Spot {
     pub line: usize,
     pub column: usize,

@@ -26,7 +26,7 @@ const NO_PART: u8 = 3;
 const HEX_MARK: u8 = 120;
 
 // A raw number, or a word that writes none.
-#[derive(Drop)]
+#[derive(Clone, Copy)]
 pub enum RawTyped {
     Number(i64),
     Nothing,

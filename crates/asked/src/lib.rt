@@ -1,4 +1,6 @@
 // A physical write: the raw number that an asked text stores, with limits on the asked value and on what is stored.
+#![tactic(auto)]
+
 ghost use Rattle.std.specs.Prelude.{◌≡◌};
 ghost use Rattle.number.specs.Told.{scaled};
 ghost use Rattle.cell.specs.Kind.{shape_of};

@@ -18,7 +18,7 @@ use tables::form::GROUP;
 use text::bytes::same_part;
 
 // Where a part's conversion, limits and READ_ONLY stand: section, record, slots.
-#[derive(Drop)]
+#[derive(Clone, Copy)]
 pub struct Source {
     pub sec: u8,
     pub number: u16,
@@ -29,7 +29,7 @@ pub struct Source {
 }
 
 // What is known of an object: what it needs, its layout, where its parts stand, its byte order, its layout's number.
-#[derive(Drop)]
+#[derive(Clone, Copy)]
 pub struct Known {
     pub need: Need,
     pub layout: Layout,
@@ -39,7 +39,7 @@ pub struct Known {
 }
 
 // Where a part stands: data type, byte order, place in the image, points in x and y, walk.
-#[derive(Drop)]
+#[derive(Clone, Copy)]
 pub struct Spot {
     pub kind: u64,
     pub first: bool,

@@ -1,4 +1,6 @@
 // The tables that a load leaves.
+#![tactic(auto)]
+
 mod group;
 
 ghost use Rattle.std.specs.Prelude.{◌≡◌, [], ◌∷◌, ◌≤◌, length, replicate};

@@ -1,4 +1,5 @@
 // What the programs that run stored cases share: parting lines, numbers and hex in their input. Nothing of the reader rests on it.
+#![tactic(auto)]
 
 // A line feed, a space, and the byte that a parting line has four times.
 pub const LF: u8 = 10;

@@ -15,7 +15,7 @@ pub const ULONG: u64 = 5;
 pub const SLONG: u64 = 6;
 
 // What a data type is: its size in bytes, whether it has a sign, and its alignment where no word sets one.
-#[derive(Drop)]
+#[derive(Clone, Copy)]
 pub struct Shape {
     pub bytes: usize,
     pub signed: bool,

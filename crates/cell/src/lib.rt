@@ -1,4 +1,6 @@
 // One element's bytes and its raw number: data types, byte order, two's complement, masks.
+#![tactic(auto)]
+
 mod bytes;
 pub mod kind;
 mod mask;

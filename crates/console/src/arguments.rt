@@ -41,7 +41,7 @@ const NO_EDITION: u32 = 0;
 // How many hexadecimal figures a number below 2^32 has at most.
 const MOST_FIGURES: usize = 8;
 
-#[derive(Drop)]
+#[derive(Clone, Copy)]
 pub enum Command {
     Help,
     Unknown,
@@ -51,14 +51,14 @@ pub enum Command {
     Apply,
 }
 
-#[derive(Drop)]
+#[derive(Clone, Copy)]
 pub enum NumberTyped {
     Number(u32),
     Nothing,
 }
 
 // A base address that is typed: one below 2^32, a number of 2^32 or more, or no number.
-#[derive(Drop)]
+#[derive(Clone, Copy)]
 pub enum BaseTyped {
     Address(u32),
     TooLarge,

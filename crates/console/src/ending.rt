@@ -5,7 +5,7 @@ use libc::{STDERR_FILENO, STDOUT_FILENO};
 const LISTENER: i32 = 3;
 
 // What was asked is done, it was refused, or an error was said.
-#[derive(Drop)]
+#[derive(Clone, Copy)]
 pub enum Ending {
     Done,
     Refused,

@@ -1,4 +1,6 @@
 // The program's edge: its arguments, what it says, and how it ends. Nothing of the reader rests on it.
+#![tactic(auto)]
+
 pub mod arguments;
 pub mod buffer;
 pub mod called;

@@ -28,7 +28,7 @@ pub const NO_FIT: u8 = 18;
 // "the asked value has a whole part over ten-power of size at most 10^9"
 const MOST_ASKED: u64 = 1000000000;
 
-#[derive(Drop)]
+#[derive(Clone, Copy)]
 pub enum RawAnswer {
     Raw(i64),
     Refused { no: u8 },

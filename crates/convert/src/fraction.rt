@@ -8,7 +8,7 @@ pub const NUMBER: u8 = 1;
 pub const TEXT: u8 = 2;
 
 // A physical value as a line of the list holds it: the fraction's two numbers, or the text's first byte and the one past it.
-#[derive(Drop)]
+#[derive(Clone, Copy)]
 pub struct Physical {
     pub state: u8,
     pub first: i64,
@@ -16,7 +16,7 @@ pub struct Physical {
 }
 
 // A shown value: a number, a text's two byte places, or nothing.
-#[derive(Drop)]
+#[derive(Clone, Copy)]
 pub enum Shown {
     Real(f64),
     Words(u64, u64),

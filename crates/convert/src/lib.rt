@@ -1,4 +1,6 @@
 // Conversions: the coefficients, the limits, and from an asked value to the nearest raw number.
+#![tactic(auto)]
+
 pub mod asked;
 pub mod edition;
 pub mod fraction;

@@ -17,7 +17,7 @@ pub const NO_CONVERSION: u8 = 10;
 const MOST_COEFFICIENT: u64 = 1000000000;
 
 // b, c, e and f of RAT_FUNC, made whole.
-#[derive(Drop)]
+#[derive(Clone, Copy)]
 pub struct Coefficients {
     pub b: i64,
     pub c: i64,
@@ -25,7 +25,7 @@ pub struct Coefficients {
     pub f: i64,
 }
 
-#[derive(Drop)]
+#[derive(Clone, Copy)]
 pub enum MethodAnswer {
     Whole(Coefficients),
     Refused { no: u8 },
@@ -94,7 +94,7 @@ pub fn rat_func(b: Decimal, c: Decimal, e: Decimal, f: Decimal) -> MethodAnswer
     MethodAnswer::Refused { no: NO_CONVERSION }
 }
 
-// LINEAR, PHYS = typeof.a.INT + b.
+// LINEAR, PHYS = a·INT + b.
 pub fn linear(a: Decimal, b: Decimal) -> MethodAnswer
     ensures { told_method result ≡ linear_of (scaled a) (scaled b) }
 {

@@ -8,14 +8,14 @@ use number::decimal::MOST_WHOLE;
 use number::digits::digit_of;
 
 // The number m with z zeros after it; m has more than ten digits where more than ten count.
-#[derive(Drop)]
+#[derive(Clone, Copy)]
 pub struct Part {
     pub m: u64,
     pub z: usize,
 }
 
 // Digits from a place on: where they end, and the number m with z zeros after it; or more than ten digits that count.
-#[derive(Drop)]
+#[derive(Clone, Copy)]
 pub enum Gathered {
     Kept { end: usize, m: u64, z: usize },
     Over,

@@ -1,4 +1,6 @@
 // Decimal numbers as a run of bytes writes them, with or without an exponent.
+#![tactic(auto)]
+
 ghost use Rattle.std.specs.Prelude.{◌≡◌, length, drop};
 ghost use Rattle.number.specs.Answer.{in_run};
 ghost use Rattle.number.specs.Told.{told_decimal, BelowHundred};

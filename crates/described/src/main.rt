@@ -1,5 +1,7 @@
 // Reads the descriptions of its input and prints a line for each: how many records it has, or its refusal's number and place.
 // A line `====` parts two descriptions; the line ends before and after it belong to it. The last description may have one after it too.
+#![tactic(auto)]
+
 use engine::read::read;
 use grammar::state::ReadAnswer;
 use grammar::view::{AXIS, ENTRY, LAYOUT, METHOD, OBJECT, TABLE, count_of};

@@ -1,4 +1,6 @@
 // The calls as C functions, thin over the library: include/obarsivel.h says what each takes and answers.
+#![tactic(auto)]
+
 ghost use Rattle.std.specs.Prelude.{◌≡◌, length};
 ghost use Rattle.load.specs.Load.{loaded};
 ghost use Rattle.look.specs.Calls.{lent_of, kept, searched, reading, making, raw_number, physical_text, request, writing};

@@ -4,7 +4,7 @@ use console::ending::Ending;
 use console::message::error_about;
 use console::sizes::{WORD_ROOM, front};
 
-#[derive(Drop)]
+#[derive(Clone, Copy)]
 pub enum FileRead {
     Bytes(usize),
     Nothing,

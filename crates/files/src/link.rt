@@ -6,14 +6,14 @@ use console::sizes::{WORD_ROOM, front};
 // How many links are followed at most, as the system does.
 const LINKS: usize = 40;
 
-#[derive(Drop)]
+#[derive(Clone, Copy)]
 enum Followed {
     End,
     Link(usize),
     Nothing,
 }
 
-#[derive(Drop)]
+#[derive(Clone, Copy)]
 pub enum Resolved {
     At(usize),
     Nothing,

@@ -10,7 +10,7 @@ pub const FIGURES: usize = 10;
 
 const NOTE_ROOM: usize = 11;
 
-#[derive(Drop)]
+#[derive(Clone, Copy)]
 pub enum Noted {
     Made,
     Taken,

@@ -31,7 +31,7 @@ const OWN_MODE: u32 = 0o600;
 const SAME: u32 = 4294967295;
 
 // What became of it, or what stood in the way.
-#[derive(Drop)]
+#[derive(Clone, Copy)]
 enum Replaced {
     Done,
     Links,

@@ -1,7 +1,7 @@
 // What is known of an open file: its mode, its owner and its group.
 use libc::types::{stat, timespec};
 
-#[derive(Drop)]
+#[derive(Clone, Copy)]
 pub struct Status {
     pub known: bool,
     pub mode: u32,

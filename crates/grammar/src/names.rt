@@ -8,7 +8,7 @@ use records::get;
 use text::bytes::{byte_at, is_like, one_before};
 
 // Where a name was found.
-#[derive(Drop)]
+#[derive(Clone, Copy)]
 pub enum Found {
     At(u16),
     Nothing,

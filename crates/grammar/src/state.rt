@@ -11,7 +11,7 @@ pub const ENDED: u8 = 2;
 pub const OVER: u8 = 3;
 
 // The mode, the code of the open block's word, the number of the next parameter (0: none), how many pairs are left.
-#[derive(Drop)]
+#[derive(Clone, Copy)]
 pub struct State {
     pub mode: u8,
     pub block: u8,
@@ -20,7 +20,7 @@ pub struct State {
 }
 
 // A record more in section adds; then the first `many` of a, b, c, d in the current record of a section from a slot on.
-#[derive(Drop)]
+#[derive(Clone, Copy)]
 pub struct Act {
     pub adds: u8,
     pub sec: u8,
@@ -33,7 +33,7 @@ pub struct Act {
 }
 
 // On, with the next place, what is expected there and what is written; the text is over; or a refusal.
-#[derive(Drop)]
+#[derive(Clone, Copy)]
 pub enum Move {
     Went {
         next: Cursor,
@@ -48,7 +48,7 @@ pub enum Move {
 }
 
 // The description was read, or a refusal.
-#[derive(Drop)]
+#[derive(Clone, Copy)]
 pub enum ReadAnswer {
     Accepted,
     Refused { no: u8, place: usize },

@@ -1,1 +1,2 @@
 // What is true of the tables of every load that was accepted: theorems alone, in specs and proofs.
+#![tactic(auto)]

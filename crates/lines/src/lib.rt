@@ -1,2 +1,4 @@
 // A text's lines, and a line's fields.
+#![tactic(auto)]
+
 pub mod field;

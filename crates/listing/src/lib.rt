@@ -1,3 +1,5 @@
 // What a listing has, and a printed line into a lent buffer.
+#![tactic(auto)]
+
 pub mod line;
 pub mod listing;

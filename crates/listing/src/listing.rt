@@ -1,7 +1,7 @@
 // What a listing answers.
 
 // How many bytes were written, or the number of the refusal.
-#[derive(Drop)]
+#[derive(Clone, Copy)]
 pub enum ListingAnswer {
     Written(usize),
     Refused { no: u8 },

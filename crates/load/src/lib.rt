@@ -1,4 +1,6 @@
 // The whole load: a description read, judged and turned into tables, or refused.
+#![tactic(auto)]
+
 ghost use Rattle.std.specs.Prelude.{◌≡◌, ◌≤◌, length, replicate};
 ghost use Rattle.records.specs.Cells.{room};
 ghost use Rattle.rows.specs.Sections as records;
@@ -20,7 +22,7 @@ use tables::sizes::sizes_fit;
 use turns::judge_all;
 
 // What a load answers: the tables are filled, or the first refusal's number and place.
-#[derive(Drop)]
+#[derive(Clone, Copy)]
 pub enum LoadAnswer {
     Accepted,
     Refused { no: u8, place: usize },

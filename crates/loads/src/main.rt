@@ -1,5 +1,7 @@
 // Loads the descriptions of its input and prints a line for each: how much its tables hold, or its refusal's number and place.
 // A line `====` parts two of them. Each starts with a line of its own: the base address, a space, the image in hex. All are of edition 1.
+#![tactic(auto)]
+
 use cases::{LF, PART_BYTES, SPACE, between, bytes_of, number_at, part_end, place_from};
 use convert::edition::EDITION_ONE;
 use libc::{STDIN_FILENO, STDOUT_FILENO};

@@ -1,5 +1,5 @@
 // A call that has an effect: done, or the number of the refusal.
-#[derive(Drop)]
+#[derive(Clone, Copy)]
 pub enum CallAnswer {
     Done,
     Refused { no: u8 },

@@ -15,7 +15,7 @@ use tables::group::{Storage, place_by, storage_of};
 use verbal::text::text_of;
 
 // A line of the list: the raw number, the state (0 none, 1 number, 2 text), and its two numbers or places.
-#[derive(Drop)]
+#[derive(Clone, Copy)]
 pub struct Line {
     pub raw: i64,
     pub state: u8,

@@ -1,4 +1,6 @@
 // The value list's definitions, and what reads and changes nothing: one element, what every call tests first.
+#![tactic(auto)]
+
 pub mod bytes;
 pub mod call;
 pub mod check;

@@ -16,7 +16,7 @@ use tables::form::{METHOD, slot_of};
 use tables::group::{Storage, method_of};
 
 // What a group's raw numbers mean by: a verbal table with its number, or coefficients.
-#[derive(Drop)]
+#[derive(Clone, Copy)]
 pub struct Meaning {
     pub verbal: bool,
     pub table: u16,

@@ -13,7 +13,7 @@ use convert::fraction::{Physical, Shown};
 use fraction::fraction::shown_of;
 
 // What is read of an element, or the number of the refusal.
-#[derive(Drop)]
+#[derive(Clone, Copy)]
 pub enum ReadAnswer {
     Element {
         raw: i64,

@@ -1,7 +1,7 @@
 // What a search by name answers.
 
 // Where a name was found, or the number of the refusal.
-#[derive(Drop)]
+#[derive(Clone, Copy)]
 pub enum SearchAnswer {
     At(u16),
     Nothing,

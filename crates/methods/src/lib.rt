@@ -1,4 +1,6 @@
 // Conversions of the methods that were read: the first that is none stops the load.
+#![tactic(auto)]
+
 ghost use Rattle.std.specs.Prelude.{◌≡◌};
 ghost use Rattle.convert.specs.Told.{told_method};
 ghost use Rattle.grammar.specs.Move.{view_in};
@@ -12,7 +14,7 @@ use rows::slots::{
 use words::codes::{LINEAR, RAT_FUNC};
 
 // Every method has its coefficients, or the refusal of the first that has none.
-#[derive(Drop)]
+#[derive(Clone, Copy)]
 pub enum Converted {
     Fine,
     Refused { no: u8, place: usize },

@@ -1,4 +1,6 @@
 // The plain search: the first object that bears a name.
+#![tactic(auto)]
+
 ghost use Rattle.std.specs.Prelude.{◌≡◌, length};
 ghost use Rattle.number.specs.Answer.{given};
 ghost use Rattle.tables.specs.Form.{object_section, tables_in};

@@ -14,14 +14,14 @@ pub const MOST_WHOLE: u64 = 9999999999;
 pub const MOST_AFTER: usize = 6;
 
 // A decimal number: whole over 10^tens, below zero where negative.
-#[derive(Drop)]
+#[derive(Clone, Copy)]
 pub struct Decimal {
     pub negative: bool,
     pub whole: u64,
     pub tens: u32,
 }
 
-#[derive(Drop)]
+#[derive(Clone, Copy)]
 pub enum DecimalAnswer {
     Number(Decimal),
     Refused { no: u8 },

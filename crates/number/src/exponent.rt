@@ -6,7 +6,7 @@ use crate::decimal::{is_minus, sign_len};
 use crate::digits::digit_of;
 
 // No exponent; one that moves the point down or up by so many digits; or what is none.
-#[derive(Drop)]
+#[derive(Clone, Copy)]
 pub enum Exponent {
     Nothing,
     By { down: bool, by: u8 },

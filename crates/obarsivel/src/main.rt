@@ -1,4 +1,6 @@
 // The program: lists, reads and writes the elements that a description finds in an image. README.md shows how it is used.
+#![tactic(auto)]
+
 mod run;
 
 use crate::run::run;

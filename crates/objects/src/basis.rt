@@ -15,7 +15,7 @@ use rows::slots::{BLOCK_CODE, OBJECT_ADDRESS, OBJECT_TYPE};
 use words::codes::MEASUREMENT;
 
 // The number of an object's layout, the layout, and the object's ground.
-#[derive(Drop)]
+#[derive(Clone, Copy)]
 pub struct Basis {
     pub number: u16,
     pub layout: Layout,

@@ -1,7 +1,7 @@
 // What an object's turn answers.
 
 // How many elements there are from here on, or the first refusal.
-#[derive(Drop)]
+#[derive(Clone, Copy)]
 pub enum Turn {
     Total(u32),
     Refused { no: u8, place: usize },

@@ -3,7 +3,7 @@ ghost use Rattle.std.specs.Prelude.{◌≡◌, [], ◌∷◌};
 ghost use Rattle.place.specs.Order.{insert, two, three, four, five, parts, in_order};
 
 // What a layout says of one part: whether it has it, its Position and its data type.
-#[derive(Drop)]
+#[derive(Clone, Copy)]
 pub struct Entry {
     pub present: bool,
     pub position: u16,
@@ -11,7 +11,7 @@ pub struct Entry {
 }
 
 // A layout: FNC_VALUES, AXIS_PTS_X, AXIS_PTS_Y, NO_AXIS_PTS_X, NO_AXIS_PTS_Y.
-#[derive(Drop)]
+#[derive(Clone, Copy)]
 pub struct Layout {
     pub values: Entry,
     pub x: Entry,
@@ -21,7 +21,7 @@ pub struct Layout {
 }
 
 // The alignment words in force, by size; 0 where none sets one.
-#[derive(Drop)]
+#[derive(Clone, Copy)]
 pub struct Aligns {
     pub byte: u8,
     pub word: u8,
@@ -29,7 +29,7 @@ pub struct Aligns {
 }
 
 // Which part of a layout a part is.
-#[derive(Drop)]
+#[derive(Clone, Copy)]
 pub enum Role {
     Values,
     PointsX,
@@ -39,27 +39,27 @@ pub enum Role {
 }
 
 // A part with what its layout says of it.
-#[derive(Drop)]
+#[derive(Clone, Copy)]
 pub struct Part {
     pub role: Role,
     pub entry: Entry,
 }
 
 // Parts in a row, two to five of them.
-#[derive(Drop)]
+#[derive(Clone, Copy)]
 pub struct Two {
     pub a: Part,
     pub b: Part,
 }
 
-#[derive(Drop)]
+#[derive(Clone, Copy)]
 pub struct Three {
     pub a: Part,
     pub b: Part,
     pub c: Part,
 }
 
-#[derive(Drop)]
+#[derive(Clone, Copy)]
 pub struct Four {
     pub a: Part,
     pub b: Part,
@@ -67,7 +67,7 @@ pub struct Four {
     pub d: Part,
 }
 
-#[derive(Drop)]
+#[derive(Clone, Copy)]
 pub struct Five {
     pub a: Part,
     pub b: Part,

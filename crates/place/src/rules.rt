@@ -6,7 +6,7 @@ use crate::order::{Entry, Layout};
 
 // An axis of an object: whether the object stores it, the most points it may have, and how many it has where it is not stored.
 // An axis that the object has not is not stored, and has one point of one.
-#[derive(Drop)]
+#[derive(Clone, Copy)]
 pub struct Axis {
     pub stored: bool,
     pub most: u16,
@@ -14,7 +14,7 @@ pub struct Axis {
 }
 
 // What an object needs: values or none, and its axes.
-#[derive(Drop)]
+#[derive(Clone, Copy)]
 pub struct Need {
     pub values: bool,
     pub x: Axis,

@@ -11,7 +11,7 @@ pub const OUTSIDE: u8 = 12;
 pub const BAD_COUNT: u8 = 13;
 
 // Where an object and the image stand, whether its byte order is MSB_FIRST, and the alignment words in force.
-#[derive(Drop)]
+#[derive(Clone, Copy)]
 pub struct Ground {
     pub address: u32,
     pub base: u32,
@@ -20,7 +20,7 @@ pub struct Ground {
 }
 
 // Each part's address (0 where the object has it not), and the points in x and in y.
-#[derive(Drop)]
+#[derive(Clone, Copy)]
 pub struct Places {
     pub values: u64,
     pub x: u64,
@@ -32,7 +32,7 @@ pub struct Places {
 }
 
 // How far the parts are placed: the address past the last one, and whether there is one.
-#[derive(Drop)]
+#[derive(Clone, Copy)]
 pub struct Reached {
     pub free: u64,
     pub any: bool,
@@ -40,14 +40,14 @@ pub struct Reached {
 }
 
 // The parts placed so far, or the number of the first refusal.
-#[derive(Drop)]
+#[derive(Clone, Copy)]
 pub enum Placed {
     At(Reached),
     Refused { no: u8 },
 }
 
 // A stored count, or the number of its refusal.
-#[derive(Drop)]
+#[derive(Clone, Copy)]
 pub enum Counted {
     Of(u16),
     Refused { no: u8 },

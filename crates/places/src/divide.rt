@@ -3,7 +3,7 @@ ghost use Rattle.std.specs.Prelude.{◌≡◌, ◌+◌, ◌*◌, ◌/◌, ◌<�
 ghost use Rattle.places.specs.Divide.{Divides};
 
 // A number as so many divisors and a rest.
-#[derive(Drop)]
+#[derive(Clone, Copy)]
 pub struct Division {
     pub whole: u64,
     pub rest: u64,

@@ -14,7 +14,7 @@ use number::decimal::Decimal;
 const PAST_WHOLE: u64 = 10000000000;
 
 // The two sides of a decimal and a fraction: whether it is at most the fraction, and whether the fraction is at most it.
-#[derive(Drop)]
+#[derive(Clone, Copy)]
 struct Sides {
     below: bool,
     above: bool,

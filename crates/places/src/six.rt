@@ -11,7 +11,7 @@ const PAST_DIVISOR: u64 = 9223372036854775808;
 const LAST: u64 = 999999;
 
 // A whole part, and the millionths beside it.
-#[derive(Drop)]
+#[derive(Clone, Copy)]
 pub struct Six {
     pub whole: u64,
     pub millionths: u64,

@@ -1,9 +1,11 @@
 // Records of numbers in sections of one lent slice. Every reading is total: what is not there reads as 0, and a store there does nothing.
+#![tactic(auto)]
+
 ghost use Rattle.std.specs.Prelude.{◌≡◌, length, get_or, set, replicate};
 ghost use Rattle.records.specs.Cells.{place, count_in, slot_in, put_in, add_in};
 
 // A section: where it begins, how many numbers a record has, how many records there are at most.
-#[derive(Drop)]
+#[derive(Clone, Copy)]
 pub struct Section {
     pub base: u32,
     pub width: u8,

@@ -1,4 +1,6 @@
 // References: the first that leads nowhere stops the load.
+#![tactic(auto)]
+
 ghost use Rattle.std.specs.Prelude.{◌≡◌};
 ghost use Rattle.grammar.specs.Move.{view_in};
 ghost use Rattle.refer.specs.Refer.{inner_rows, row, is_free, judged_reference, failing, least_of, least_in, stopped, sooner, referred, told_reference};
@@ -12,14 +14,14 @@ use rows::slots::{
 use text::bytes::same_part;
 
 // Every reference leads somewhere, or the refusal of the first that does not.
-#[derive(Drop)]
+#[derive(Clone, Copy)]
 pub enum Reference {
     Fine,
     Refused { no: u8, place: usize },
 }
 
 // A reference: its section and slot, the section and class that it must lead to, and the word that stands for none.
-#[derive(Drop)]
+#[derive(Clone, Copy)]
 pub struct Row {
     pub sec: u8,
     pub slot: u8,

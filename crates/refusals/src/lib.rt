@@ -1,1 +1,2 @@
 // Which refusals a load can answer, and what it then leaves: theorems alone, in specs and proofs.
+#![tactic(auto)]

@@ -21,14 +21,14 @@ pub const NO_NAME: u8 = 3;
 pub const NO_WAY: u8 = 4;
 
 // An element by object number, part and index, or what is wrong with its words.
-#[derive(Drop)]
+#[derive(Clone, Copy)]
 pub enum ElementTyped {
     At { object: u32, part: u8, index: u32 },
     Wrong { why: u8 },
 }
 
 // How a value is written.
-#[derive(Drop)]
+#[derive(Clone, Copy)]
 pub enum Way {
     Raw,
     Physical,

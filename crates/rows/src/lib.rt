@@ -1,5 +1,7 @@
 // The grammar's rows as numbers: specs/Rows.antt has them in words, and the proofs compute that they are the same.
 // Each table is a match and no array: an array that is indexed would be copied by every call.
+#![tactic(auto)]
+
 pub mod cells;
 pub mod kinds;
 pub mod slots;

@@ -1,4 +1,6 @@
 // The table rule, over the form and the groups of the lent tables.
+#![tactic(auto)]
+
 mod conversion;
 mod object;
 mod part;

@@ -1,4 +1,6 @@
 // Document 01's points P1 to P10, run through the proved functions and printed, a point to a line.
+#![tactic(auto)]
+
 use asked::asked_raw;
 use cell::kind::{SWORD, UBYTE, UWORD};
 use cell::raw::{fits_raw, read_raw, write_raw};

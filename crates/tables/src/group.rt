@@ -225,7 +225,7 @@ fn position_of(walk: u64, x: u32, wide: u32, high: u32, i: u64) -> u64
 }
 
 // How a group is stored: its data type, byte order, first byte's place, points and room in x and y, walk and mask.
-#[derive(Drop)]
+#[derive(Clone, Copy)]
 pub struct Storage {
     pub kind: u64,
     pub first: bool,

@@ -1,20 +1,20 @@
 // The reader's place and the answers that hand it back.
 
 // A place in the text.
-#[derive(Drop)]
+#[derive(Clone, Copy)]
 pub struct Cursor {
     pub at: usize,
 }
 
 // A place that was reached, or a refusal.
-#[derive(Drop)]
+#[derive(Clone, Copy)]
 pub enum Reach {
     To(Cursor),
     Refused { no: u8, place: usize },
 }
 
 // A piece of the text, from its first byte to the cursor past it; the text's end; or a refusal.
-#[derive(Drop)]
+#[derive(Clone, Copy)]
 pub enum Token {
     Name { start: usize, next: Cursor },
     Text { start: usize, next: Cursor },
@@ -26,7 +26,7 @@ pub enum Token {
 }
 
 // An item of a skipped block, from its first byte to the cursor past it; the text's end; or a refusal.
-#[derive(Drop)]
+#[derive(Clone, Copy)]
 pub enum Item {
     Run { start: usize, next: Cursor },
     Text { start: usize, next: Cursor },
@@ -37,7 +37,7 @@ pub enum Item {
 }
 
 // An item of a skipped block that was passed, the block's `/end`, or a refusal.
-#[derive(Drop)]
+#[derive(Clone, Copy)]
 pub enum Passed {
     Past(Cursor),
     Closes(Cursor),
@@ -45,7 +45,7 @@ pub enum Passed {
 }
 
 // A blank or comment that was passed, none, or a refusal.
-#[derive(Drop)]
+#[derive(Clone, Copy)]
 pub enum Gap {
     Past(Cursor),
     Nothing,
@@ -53,7 +53,7 @@ pub enum Gap {
 }
 
 // The tag of a block, from its first byte to the cursor past it, or a refusal.
-#[derive(Drop)]
+#[derive(Clone, Copy)]
 pub enum Tag {
     At { start: usize, next: Cursor },
     Refused { no: u8, place: usize },

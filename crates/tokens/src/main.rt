@@ -1,5 +1,7 @@
 // Prints the tokens of a description that it reads from its input, one to a line: kind, first byte, the place past it, and the token itself.
 // A block A2ML or IF_DATA is passed whole, and is one line. It stops at the text's end or at the first refusal.
+#![tactic(auto)]
+
 use libc::{STDIN_FILENO, STDOUT_FILENO};
 use text::bytes::same_part;
 use text::cursor::{Cursor, Reach, Token};
@@ -12,7 +14,7 @@ const TEXT_BYTES: usize = 32768;
 const LEVELS_LEFT: u8 = 13;
 
 // The place to read on from, or no more to read.
-#[derive(Drop)]
+#[derive(Clone, Copy)]
 enum Next {
     On(Cursor),
     Stop,

@@ -1,4 +1,6 @@
 // The last stage of a load: each object judged at its first turn.
+#![tactic(auto)]
+
 ghost use Rattle.std.specs.Prelude.{◌≡◌, [], ◌∷◌, ◌++◌, eqb, get_or, set};
 ghost use Rattle.rows.specs.Sections.{object};
 ghost use Rattle.rows.specs.Slots.{own_name};

@@ -1,2 +1,4 @@
 // Verbal tables: the text of a raw number.
+#![tactic(auto)]
+
 pub mod text;

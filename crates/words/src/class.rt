@@ -14,7 +14,7 @@ use crate::{
 };
 
 // What document 01 does with a word, with its code.
-#[derive(Drop)]
+#[derive(Clone, Copy)]
 pub enum Class {
     TakenBlock(u8),
     TakenPlain(u8),

@@ -1,4 +1,6 @@
 // Document 000's words, and what document 01 does with each.
+#![tactic(auto)]
+
 pub mod class;
 pub mod codes;
 mod kinds;

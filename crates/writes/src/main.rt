@@ -1,6 +1,8 @@
 // Loads one description, makes its list, applies the write requests that follow it, and prints each answer, the listing of the kept list,
 // and the image in hex. The description starts with a line of its own: the base address, a space, the image in hex; a line `====` ends it.
 // A request is a line of five words parted by single spaces: object number, part (x, y, v), index, raw or phys, the value.
+#![tactic(auto)]
+
 use cases::{LF, PART_BYTES, SPACE, between, bytes_of, number_at, part_end, place_from};
 use convert::edition::EDITION_ONE;
 use libc::{STDIN_FILENO, STDOUT_FILENO};
@@ -64,7 +66,7 @@ fn print_answer(n: usize, r: CallAnswer) {
 }
 
 // A request's words: the element, whether its value is a raw number, and where the value starts in the line.
-#[derive(Drop)]
+#[derive(Clone, Copy)]
 struct Request {
     object: u32,
     part: u8,

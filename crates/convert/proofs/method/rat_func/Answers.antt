@@ -1,0 +1,45 @@
+-- `convert::method::rat_func` meets its contract. Assumes nothing.
+use Rattle.convert.proofs.MethodLaws.{rat-funcs}
+use Rattle.convert.proofs.method.rat_func.Goals as goal
+
+pub is_formed-requires : goal.is_formed-requires
+is_formed-requires c = search rat-funcs
+
+pub is_formed-requires-2 : goal.is_formed-requires-2
+is_formed-requires-2 c = search rat-funcs
+
+pub is_formed-requires-3 : goal.is_formed-requires-3
+is_formed-requires-3 c = search rat-funcs
+
+pub is_formed-requires-4 : goal.is_formed-requires-4
+is_formed-requires-4 c = search rat-funcs
+
+pub larger-requires : goal.larger-requires
+larger-requires c = search rat-funcs
+
+pub larger-requires-then-is_formed : goal.larger-requires-then-is_formed
+larger-requires-then-is_formed c = search rat-funcs
+
+pub larger-t-requires : goal.larger-t-requires
+larger-t-requires c = search rat-funcs
+
+pub made_whole-requires : goal.made_whole-requires
+made_whole-requires c = (search rat-funcs, (search rat-funcs, search rat-funcs))
+
+pub made_whole-requires-then-is_formed : goal.made_whole-requires-then-is_formed
+made_whole-requires-then-is_formed c = (search rat-funcs, (search rat-funcs, search rat-funcs))
+
+pub made_whole-requires-then-is_formed-2 : goal.made_whole-requires-then-is_formed-2
+made_whole-requires-then-is_formed-2 c = (search rat-funcs, (search rat-funcs, search rat-funcs))
+
+pub made_whole-requires-then-is_formed-3 : goal.made_whole-requires-then-is_formed-3
+made_whole-requires-then-is_formed-3 c = (search rat-funcs, (search rat-funcs, search rat-funcs))
+
+pub judge-requires : goal.judge-requires
+judge-requires c = search rat-funcs
+
+pub returns-then-is_formed : goal.returns-then-is_formed
+returns-then-is_formed c = search rat-funcs
+
+pub returns : goal.returns
+returns c = search rat-funcs

@@ -1,0 +1,8 @@
+-- `convert::whole::is_formed` meets its contract. Assumes nothing.
+use mathlib.Core.Path.{refl}
+use Rattle.convert.specs.Limit.{formed}
+use Rattle.convert.proofs.whole.is_formed.Goals as goal
+
+pub returns : goal.returns
+unfolding formed
+returns c = refl

@@ -1,0 +1,21 @@
+-- `decimal_in` meets its contract.
+use Rattle.number.proofs.Bytes.{run-places}
+use Rattle.decimals.proofs.decimal_in.Goals as goal
+
+pub returns-then-to-from : goal.returns-then-to-from
+returns-then-to-from c = search run-places
+
+pub returns-then-s-to : goal.returns-then-s-to
+returns-then-s-to c = search run-places
+
+pub slice_bounds-decimal_of-start : goal.slice_bounds-decimal_of-start
+slice_bounds-decimal_of-start c = search run-places
+
+pub slice_bounds-decimal_of-end : goal.slice_bounds-decimal_of-end
+slice_bounds-decimal_of-end c = search run-places
+
+pub decimal_of-requires : goal.decimal_of-requires
+decimal_of-requires c = search run-places
+
+pub returns : goal.returns
+returns c = search run-places

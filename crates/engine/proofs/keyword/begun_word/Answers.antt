@@ -1,0 +1,53 @@
+use Rattle.grammar.proofs.KeywordLaws.{begins}
+use Rattle.engine.proofs.keyword.begun_word.Goals as goal
+
+pub class_of-requires : goal.class_of-requires
+class_of-requires c = search begins
+
+pub enum_known-c : goal.enum_known-c
+enum_known-c c = search begins
+
+pub open-requires : goal.open-requires
+open-requires c = search begins
+
+pub enum_told-1 : goal.enum_told-1
+enum_told-1 c = search begins
+
+pub skip-requires : goal.skip-requires
+skip-requires c = search begins
+
+pub enum_told-in-TakenPlain : goal.enum_told-in-TakenPlain
+enum_told-in-TakenPlain c = search begins
+
+pub enum_told-in-TakenChoice : goal.enum_told-in-TakenChoice
+enum_told-in-TakenChoice c = search begins
+
+pub enum_told-in-SkippedPlain : goal.enum_told-in-SkippedPlain
+enum_told-in-SkippedPlain c = search begins
+
+pub enum_told-in-ListedOnly : goal.enum_told-in-ListedOnly
+enum_told-in-ListedOnly c = search begins
+
+pub enum_told-in-Unlisted : goal.enum_told-in-Unlisted
+enum_told-in-Unlisted c = search begins
+
+pub returns-in-TakenBlock : goal.returns-in-TakenBlock
+returns-in-TakenBlock c = search begins
+
+pub returns-in-SkippedBlock : goal.returns-in-SkippedBlock
+returns-in-SkippedBlock c = search begins
+
+pub returns-in-TakenPlain : goal.returns-in-TakenPlain
+returns-in-TakenPlain c = search begins
+
+pub returns-in-TakenChoice : goal.returns-in-TakenChoice
+returns-in-TakenChoice c = search begins
+
+pub returns-in-SkippedPlain : goal.returns-in-SkippedPlain
+returns-in-SkippedPlain c = search begins
+
+pub returns-in-ListedOnly : goal.returns-in-ListedOnly
+returns-in-ListedOnly c = search begins
+
+pub returns-in-Unlisted : goal.returns-in-Unlisted
+returns-in-Unlisted c = search begins

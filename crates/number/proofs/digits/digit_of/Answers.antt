@@ -1,0 +1,30 @@
+-- `digit_of` meets its contract.
+use Rattle.number.proofs.Bytes.{digit-bytes}
+use Rattle.number.proofs.digits.digit_of.Goals as goal
+
+pub overflow_sub-result-in-65-to-70 : goal.overflow_sub-result-in-65-to-70
+overflow_sub-result-in-65-to-70 c = search digit-bytes
+
+pub overflow_sub-result-in-97-to-102 : goal.overflow_sub-result-in-97-to-102
+overflow_sub-result-in-97-to-102 c = search digit-bytes
+
+pub returns-in-48-to-57 : goal.returns-in-48-to-57
+returns-in-48-to-57 c = search digit-bytes
+
+pub returns-in-65-to-70 : goal.returns-in-65-to-70
+returns-in-65-to-70 c = search digit-bytes
+
+pub returns-in-97-to-102 : goal.returns-in-97-to-102
+returns-in-97-to-102 c = search digit-bytes
+
+pub returns-in_default : goal.returns-in_default
+returns-in_default c = search digit-bytes
+
+pub returns-in_default-2 : goal.returns-in_default-2
+returns-in_default-2 c = search digit-bytes
+
+pub returns-in_default-3 : goal.returns-in_default-3
+returns-in_default-3 c = search digit-bytes
+
+pub returns-in_default-4 : goal.returns-in_default-4
+returns-in_default-4 c = search digit-bytes

@@ -1,0 +1,5 @@
+use Rattle.objects.proofs.NeedLaws.{numbers}
+use Rattle.objects.proofs.need.axis_pts_need.Goals as goal
+
+pub returns : goal.returns
+returns c = search numbers

@@ -1,0 +1,27 @@
+use Prim.Native.Nat.{◌-◌}
+use Rattle.tables.proofs.LoopLaws.{turns}
+use Rattle.rule.proofs.rule.keep_entries.Goals as goal
+
+pub count_of-count-requires : goal.count_of-count-requires
+count_of-count-requires c = search turns
+
+pub loop-i-init : goal.loop-i-init
+loop-i-init c = search turns
+
+pub keeps_entry-requires : goal.keeps_entry-requires
+keeps_entry-requires c = search turns
+
+pub overflow_add-i : goal.overflow_add-i
+overflow_add-i c = search turns
+
+pub loop-i-smaller : goal.loop-i-smaller
+loop-i-smaller c = search turns
+
+pub loop-i-preserved : goal.loop-i-preserved
+loop-i-preserved c = search turns
+
+pub returns-else-keeps_entry : goal.returns-else-keeps_entry
+returns-else-keeps_entry c = search turns
+
+pub returns : goal.returns
+returns c = search turns

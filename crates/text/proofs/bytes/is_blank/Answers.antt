@@ -1,0 +1,5 @@
+use Rattle.text.proofs.ByteLaws.{byte-classes}
+use Rattle.text.proofs.bytes.is_blank.Goals as goal
+
+pub returns : goal.returns
+returns c = search byte-classes

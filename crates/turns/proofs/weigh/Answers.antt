@@ -1,0 +1,11 @@
+use Rattle.objects.proofs.StageLaws.{weights}
+use Rattle.turns.proofs.weigh.Goals as goal
+
+pub overflow_cast-result : goal.overflow_cast-result
+overflow_cast-result c = search weights
+
+pub returns-in-Stands : goal.returns-in-Stands
+returns-in-Stands c = search weights
+
+pub returns-in-Refused : goal.returns-in-Refused
+returns-in-Refused c = search weights

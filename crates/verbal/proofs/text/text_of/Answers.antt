@@ -1,0 +1,43 @@
+use mathlib.Core.Path.{◌≡◌, ap, ◌∙◌}
+use native.Mathlib.Omega.{arith}
+use lib.IntN.{ℤ}
+use Rattle.cell.proofs.Signed.{back, is-param}
+use Rattle.convert.specs.Verbal.{default_of, place_in, verbal_of}
+use Rattle.records.specs.Cells.{slot_in}
+use Rattle.convert.specs.Told.{held}
+use Rattle.convert.proofs.Verbals.{walk_start, walk_here, walk-on, walk_end}
+use Rattle.verbal.proofs.text.text_of.Goals as goal
+
+-- what the machine reads back is the raw number
+last : (a : tie.Start invariant-loop decreases-loop) → let t = a.args in held (verbal_of (slot_in t.t.now t.c) t.from t.count t.first t.past (back t.raw)) ≡ held (verbal_of (slot_in t.t.now t.c) t.from t.count t.first t.past t.raw)
+last a = let t = a.args in ap (λ (z : ℤ). held (verbal_of (slot_in t.t.now t.c) t.from t.count t.first t.past z)) (is-param a.ranges.raw).same
+
+pub loop-left-init : goal.loop-left-init
+loop-left-init c = let t = c.args in (omega arith, walk_start (slot_in t.t.now t.c) t.from t.count t.first t.past (back t.raw))
+
+pub returns-then-has_number : goal.returns-then-has_number
+returns-then-has_number c =
+    let t = c.args in
+    let l = c.loop-left in
+    c.entry_text.ensures
+    ∙ ap held (walk_here (slot_in t.t.now t.c) l.e (default_of (place_in t.first) (place_in t.past)) (back t.raw) c.has_number.ensures l.left c.loop-left-test.true c.if-has_number.true ∙ l.invariant.1)
+    ∙ last c
+
+pub loop-left-smaller : goal.loop-left-smaller
+loop-left-smaller c = omega arith
+
+pub loop-left-preserved : goal.loop-left-preserved
+loop-left-preserved c =
+    let t = c.args in
+    let l = c.loop-left in (
+      omega arith,
+      walk-on (slot_in t.t.now t.c) l.e (default_of (place_in t.first) (place_in t.past)) (back t.raw) c.has_number.ensures l.left c.loop-left-test.true c.if-has_number.false ∙ l.invariant.1,
+    )
+
+pub returns : goal.returns
+returns c =
+    let t = c.args in
+    let l = c.loop-left in
+    c.default_text.ensures
+    ∙ ap held (walk_end (slot_in t.t.now t.c) l.e (default_of (place_in t.first) (place_in t.past)) (back t.raw) l.left c.loop-left-test.false ∙ l.invariant.1)
+    ∙ last c

@@ -150,4 +150,4 @@ module _ (first : ℕ) (words classes before shorter : List ℕ) (i : ℕ) (q : 
         ap kind_of (x ∙ ap (λ (y : ℕ). sought (take n (drop from s)) y (span before i words) (span shorter i classes)) (sym here))
         ∙ q.right i h (take n (drop from s)) (l ∙ sym here)
 
-pub ruleset rules = (in-shorter, words-low, words-high, classes-low, classes-high, classes-fit, spans_step, number_is, rules)
+pub ruleset table_rules = (in-shorter, words-low, words-high, classes-low, classes-high, classes-fit, spans_step, number_is, rules)

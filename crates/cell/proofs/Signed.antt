@@ -114,7 +114,7 @@ is-cast n h = record { same = to_z_pos w64 h; size = omega arith }
 
 -- a call's result: its `.ok` is the bound
 pub returned : (z : ℤ) → mag z < 2 ^ 63 → back z ≡ z
-returned z h = to_z-of_z (record { sfits = h })
+returned z h = to_z-of_z {w = w64} (record { sfits = h })
 
 pub is-cast-le : (n : ℕ) {m : ℕ} → n ≤ m → T (ltb m (2 ^ 63)) → Is (to_z w64 n) (pos n) m
 is-cast-le n {m} h t = record { same = to_z_pos w64 (let k = ltb→lt m (2 ^ 63) t in omega arith); size = h }

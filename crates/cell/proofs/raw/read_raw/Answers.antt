@@ -22,7 +22,7 @@ pub returns-then-is_inside : goal.returns-then-is_inside
 returns-then-is_inside c =
     let a = c.args in
     let t = c.shape_of-t in
-    returned c.raw_of.result c.raw_of.type-inv ∙ c.raw_of.ensures
+    returned c.raw_of.result c.raw_of.type_inv ∙ c.raw_of.ensures
     ∙ read-in a.first a.at t.result a.mask a.image.now c.is_inside.ensures c.if-is_inside.true c.stored_at-stored.ensures
     ∙ ap (λ (x : Shape). raw_at a.first a.at x a.mask a.image.now) t.ensures
 

@@ -9,29 +9,32 @@ use Rattle.cell.proofs.Signed.{Is, back, is-param, is-abs}
 use Rattle.cell.proofs.Raws.{stored-none, stored_some, fit-size, fit-mask}
 use Rattle.cell.proofs.raw.stored_with.Goals as goal
 
-raw-is : (a : tie.Start) → Is (back a.args.raw) a.args.raw (nat_abs a.args.raw)
-raw-is a = is-param a.ranges.raw
-
 pub bits_of-requires : goal.bits_of-requires
 bits_of-requires c =
     let a = c in
     let t = a.args in
-    (a.requires.bytes_bound, omega (arith, is-abs (raw-is a), fit-size t.t t.mask c.if-mask-eq0.true t.raw a.requires.raw_value))
+    record {
+      width_bound = a.requires.bytes_bound;
+      raw_bound = omega (arith, is-abs (is-param a.ranges.raw), fit-size t.t t.mask c.if-mask-eq0.true t.raw a.requires.raw_value);
+    }
 
 pub returns-then-mask-eq0 : goal.returns-then-mask-eq0
 returns-then-mask-eq0 c =
     let a = c in
     let t = a.args in
-    c.bits_of.ensures ∙ ap (bits_of t.t.bytes) (raw-is a).same ∙ stored-none t.t t.mask c.if-mask-eq0.true t.old t.raw
+    c.bits_of.ensures ∙ ap (bits_of t.t.bytes) (is-param a.ranges.raw).same ∙ stored-none t.t t.mask c.if-mask-eq0.true t.old t.raw
 
 pub insert-requires : goal.insert-requires
 insert-requires c =
     let a = c in
     let t = a.args in
-    (omega arith, ap (λ (n : ℕ). fits_mask n t.mask) (c.size.ensures ∙ is-abs (raw-is a)) ∙ fit-mask t.t t.mask t.raw c.if-mask-eq0.false a.requires.raw_value)
+    record {
+      mask_nonzero = omega arith;
+      mask_value = ap (λ (n : ℕ). fits_mask n t.mask) (c.size.ensures ∙ is-abs (is-param a.ranges.raw)) ∙ fit-mask t.t t.mask t.raw c.if-mask-eq0.false a.requires.raw_value;
+    }
 
 pub returns : goal.returns
 returns c =
     let a = c in
     let t = a.args in
-    c.insert.ensures ∙ ap (inserted t.old t.mask) (c.size.ensures ∙ is-abs (raw-is a)) ∙ stored_some t.t t.mask t.old t.raw c.if-mask-eq0.false
+    c.insert.ensures ∙ ap (inserted t.old t.mask) (c.size.ensures ∙ is-abs (is-param a.ranges.raw)) ∙ stored_some t.t t.mask t.old t.raw c.if-mask-eq0.false

@@ -8,22 +8,19 @@ use Rattle.cell.proofs.Signed.{Is, back, is-param, is-lit, is-test, is-abs}
 use Rattle.cell.proofs.Types.{neg_bits, pos-bits}
 use Rattle.cell.proofs.sign.bits_of.Goals as goal
 
-raw-is : (a : tie.Start) → Is (back a.args.raw) a.args.raw (nat_abs a.args.raw)
-raw-is a = is-param a.ranges.raw
-
 pub overflow_sub-result : goal.overflow_sub-result
 overflow_sub-result c =
     let a = c in
-    let m : c.size-m.result ≡ nat_abs a.args.raw = c.size-m.ensures ∙ is-abs (raw-is a) in
+    let m : c.size-m.result ≡ nat_abs a.args.raw = c.size-m.ensures ∙ is-abs (is-param a.ranges.raw) in
     omega (arith, c.range-r.ensures)
 
 pub returns-then-raw-lt0 : goal.returns-then-raw-lt0
 returns-then-raw-lt0 c =
     let a = c in
-    let m : c.size-m.result ≡ nat_abs a.args.raw = c.size-m.ensures ∙ is-abs (raw-is a) in
-    (λ i. c.range-r.ensures i - m i) ∙ neg_bits a.args.width a.args.raw (is-test true (raw-is a) (is-lit (pos 0)) c.if-raw-lt0.true)
+    let m : c.size-m.result ≡ nat_abs a.args.raw = c.size-m.ensures ∙ is-abs (is-param a.ranges.raw) in
+    (λ i. c.range-r.ensures i - m i) ∙ neg_bits a.args.width a.args.raw (is-test true (is-param a.ranges.raw) (is-lit (pos 0)) c.if-raw-lt0.true)
 
 pub returns : goal.returns
 returns c =
     let a = c in
-    c.size-m.ensures ∙ is-abs (raw-is a) ∙ pos-bits a.args.width a.args.raw (is-test false (raw-is a) (is-lit (pos 0)) c.if-raw-lt0.false)
+    c.size-m.ensures ∙ is-abs (is-param a.ranges.raw) ∙ pos-bits a.args.width a.args.raw (is-test false (is-param a.ranges.raw) (is-lit (pos 0)) c.if-raw-lt0.false)

@@ -72,7 +72,7 @@ overflow_sub-end-2 c = search mantissas
 pub made_of-requires-2 : goal.made_of-requires-2
 made_of-requires-2 c =
     let start = c in
-    (search mantissas, search (mantissas, start.well-formed.0.1), omega (arith, start.well-formed.0.1, c.if-s-end.false), search (mantissas, start.well-formed.0.1), start.requires)
+    (search mantissas, search (mantissas, start.well_formed.0.1), omega (arith, start.well_formed.0.1, c.if-s-end.false), search (mantissas, start.well_formed.0.1), start.requires)
 
 pub returns : goal.returns
 returns c = search mantissas

@@ -8,8 +8,8 @@ use borrow.Author.Rules.{rules}
 use borrow.Author.Tests.{eq-eqb, ne_eqb, eqb-false, leb-true, le-leb, lt-leb, le-ltb}
 use lib.ListN.{length}
 use lib.Dec.{leb, eqb}
-use Rattle.text.specs.Walk.{Step, on, done, over}
-use Rattle.text.specs.Answer.{Answer, given, refused, on_to, reached, gap_step}
+use Rattle.text.specs.Walk.{on, done}
+use Rattle.text.specs.Answer.{Answer, given, refused, reached, gap_step}
 use Rattle.text.specs.Bytes.{byte, is_blank, is_allowed, pair_at}
 use Rattle.text.specs.Blank.{line_step, line_end, close_step, comment_end, blank_step, blank_at, token_ends}
 use Rattle.text.specs.declared.cursor.Cursor.{Cursor}

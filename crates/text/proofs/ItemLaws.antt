@@ -1,12 +1,12 @@
 -- Items of a skipped block, by the branches that the code takes.
 use Prim.Native.Nat.{ℕ, ◌≤◌, ◌<◌}
-use mathlib.Core.Path.{◌≡◌, refl, sym, ◌∙◌}
+use mathlib.Core.Path.{◌≡◌, sym, ◌∙◌}
 use mathlib.Core.List.{List}
-use mathlib.Core.Bool.{Bool, true, false}
+use mathlib.Core.Bool.{true, false}
 use borrow.Author.Rules.{rules}
 use borrow.Author.Tests.{eq-eqb, ne_eqb, le-leb, lt-leb}
 use lib.ListN.{length}
-use Rattle.text.specs.Answer.{Answer, given, refused, with, reached, told_item, Piece, piece, finish, run, begin, string, end}
+use Rattle.text.specs.Answer.{given, refused, reached, told_item, piece, finish, run, begin, end}
 use Rattle.text.specs.Bytes.{byte}
 use Rattle.text.specs.Blank.{blank_at}
 use Rattle.text.specs.Token.{string_at, run_end, is_begin, is_end}

@@ -1,16 +1,15 @@
 -- Every token and every item lies ahead of the place it is read from and inside the text, and so does the place of a refusal.
 use Prim.Native.Nat.{ℕ, ◌+◌, ◌≤◌, ◌<◌}
-use mathlib.Core.Path.{◌≡◌, refl, sym, ◌∙◌, ap, subst}
+use mathlib.Core.Path.{◌≡◌, refl, sym, ◌∙◌, ap}
 use mathlib.Core.List.{List}
-use mathlib.Core.Bool.{Bool, true, false, cond, ◌&&◌, ◌||◌, false≢true}
-use mathlib.Core.Logic.{◌⊎◌, ⊎_elim}
+use mathlib.Core.Bool.{true, false, ◌&&◌, ◌||◌, false≢true}
+use mathlib.Core.Logic.{⊎_elim}
 use native.Mathlib.Omega.{arith}
-use borrow.Author.Tests.{leb-true, leb-false, eqb-false, lt-leb, ne_eqb}
+use borrow.Author.Tests.{leb-false, eqb-false, lt-leb, ne_eqb}
 use lib.ListN.{length}
-use lib.Dec.{ltb, leb, eqb}
-use Rattle.text.specs.Walk.{Step, on, done, over}
-use Rattle.text.specs.Answer.{Answer, given, refused, with, Piece, piece, finish, name, string, number, run, begin, end}
-use Rattle.text.specs.Bytes.{byte, is_blank, is_allowed, starts_name, in_name, starts_number, pair_at}
+use lib.Dec.{leb, eqb}
+use Rattle.text.specs.Answer.{Answer, given, refused, with, Piece, piece, finish, string, number}
+use Rattle.text.specs.Bytes.{byte, is_allowed, starts_name, in_name, starts_number, pair_at}
 use Rattle.text.specs.Blank.{blank_at, token_ends}
 use Rattle.text.specs.Token.{name_step, name_end, name_at, quote_step, string_end, string_at, run_step, run_end, number_at, is_begin, is_end, mark_of, mark_at, token_at, next_token}
 use Rattle.text.specs.Item.{item_of, run_item, item_at, next_item}

@@ -1,16 +1,16 @@
 -- Skipping, by the branches that the code takes.
-use Prim.Native.Nat.{ℕ, zero, suc, ◌+◌, ◌-◌, ◌≤◌, ◌<◌}
+use Prim.Native.Nat.{ℕ, zero, suc, ◌-◌, ◌≤◌, ◌<◌}
 use mathlib.Core.Path.{◌≡◌, refl, sym, ◌∙◌, ap, subst}
 use mathlib.Core.List.{List}
-use mathlib.Core.Bool.{Bool, true, false, cond, ◌&&◌}
+use mathlib.Core.Bool.{Bool, true, false}
 use native.Mathlib.Omega.{arith}
 use borrow.Author.Rules.{rules}
 use lib.ListN.{length}
-use Rattle.text.specs.Walk.{Step, on, done, over}
-use Rattle.text.specs.Answer.{Answer, given, refused, with, reached, told_item, tagged, skipped, Piece, piece, finish, is, run, begin, end, Pass, past, closes}
+use Rattle.text.specs.Walk.{over}
+use Rattle.text.specs.Answer.{Answer, given, refused, with, reached, told_item, tagged, skipped, Pass, past, closes}
 use Rattle.text.specs.Bytes.{same_part, spelt}
 use Rattle.text.specs.Item.{next_item}
-use Rattle.text.specs.Skip.{as_tag, tag_at, same_tag, closing, after_item, is_a2ml, after_end, a2ml_piece, a2ml_item, a2ml_step, a2ml_end, block_piece, block_item, block_step, block_end, block_in, skip_block, skip_item}
+use Rattle.text.specs.Skip.{as_tag, tag_at, same_tag, closing, after_item, is_a2ml, after_end, a2ml_piece, a2ml_item, a2ml_end, block_piece, block_item, block_end, block_in, skip_block, skip_item}
 use Rattle.text.specs.declared.cursor.Cursor.{Cursor}
 use Rattle.text.specs.declared.cursor.Reach.{Reach}
 use Rattle.text.specs.declared.cursor.Reach.TheVariants as reach
@@ -22,7 +22,6 @@ use Rattle.text.specs.declared.cursor.Passed.{Passed}
 use Rattle.text.specs.declared.cursor.Passed.TheVariants as passed
 use Rattle.text.proofs.Walks.{Same, start, onto, stops, ends}
 use Rattle.text.proofs.ByteLaws.{via}
-use Rattle.text.proofs.Within.{Goes}
 use Rattle.text.proofs.SkipWithin.{Passes, a2ml-item-within, skip-item-within}
 
 pub a2ml-is : (s : List ℕ) (k e : ℕ) (r : Bool) → r ≡ same_part s k e (spelt "A2ML") 0 4 → r ≡ is_a2ml s k e

@@ -1,15 +1,14 @@
 -- Every item that is passed, and every block, ends ahead and inside the text.
 use Prim.Native.Nat.{ℕ, zero, suc, ◌≤◌, ◌<◌}
-use mathlib.Core.Path.{◌≡◌, refl, sym, ◌∙◌, ap, subst}
 use mathlib.Core.List.{List}
-use mathlib.Core.Bool.{Bool, true, false, cond, ◌&&◌}
+use mathlib.Core.Bool.{◌&&◌}
 use native.Mathlib.Omega.{arith}
 use lib.ListN.{length}
-use Rattle.text.specs.Walk.{Step, on, done, over}
+use Rattle.text.specs.Walk.{over}
 use Rattle.text.specs.Answer.{Answer, given, refused, with, Piece, piece, finish, is, run, begin, end, Pass, past, closes}
 use Rattle.text.specs.Bytes.{same_part}
 use Rattle.text.specs.Item.{next_item}
-use Rattle.text.specs.Skip.{as_tag, tag_at, same_tag, closing, after_item, is_a2ml, after_end, a2ml_piece, a2ml_item, a2ml_step, a2ml_end, block_piece, block_item, block_step, block_end, block_in, skip_block, skip_item}
+use Rattle.text.specs.Skip.{as_tag, tag_at, same_tag, closing, after_item, is_a2ml, after_end, a2ml_piece, a2ml_item, a2ml_end, block_piece, block_item, block_end, block_in, skip_block, skip_item}
 use Rattle.text.proofs.Within.{by-test, Goes, forward, From, Past}
 use Rattle.text.proofs.Pieces.{Pieces, item-within}
 

@@ -1,14 +1,13 @@
 -- Names, strings, runs and tokens, by the branches that the code takes.
 use Prim.Native.Nat.{ℕ, ◌+◌, ◌-◌, ◌≤◌, ◌<◌}
-use mathlib.Core.Path.{◌≡◌, refl, sym, ◌∙◌, ap, subst}
+use mathlib.Core.Path.{◌≡◌, sym, ◌∙◌, ap}
 use mathlib.Core.List.{List}
-use mathlib.Core.Bool.{Bool, true, false, cond, ◌||◌}
+use mathlib.Core.Bool.{Bool, true, false}
 use native.Mathlib.Omega.{arith}
 use borrow.Author.Rules.{rules}
 use borrow.Author.Tests.{eq-eqb, ne_eqb, le-leb, lt-leb}
 use lib.ListN.{length}
-use Rattle.text.specs.Walk.{over}
-use Rattle.text.specs.Answer.{Answer, given, refused, with, reached, told, Piece, piece, finish, name, string, number, begin, end}
+use Rattle.text.specs.Answer.{Answer, given, refused, with, reached, told, piece, finish, name, string, number, begin, end}
 use Rattle.text.specs.Bytes.{byte, is_allowed, in_name, starts_name, starts_number, pair_at, same_part, spelt}
 use Rattle.text.specs.Blank.{blank_at, token_ends}
 use Rattle.text.specs.Token.{name_step, name_end, name_at, quote_step, string_end, string_at, run_step, run_end, number_at, is_begin, is_end, mark_of, mark_at, token_at, next_token}

@@ -1,7 +1,6 @@
 -- What a reading of the text answers, in document 01's own numbers, and for each answer of the code which of these it is.
 use Rattle.std.specs.Prelude.{ℕ, Bool, eqb}
 use Rattle.text.specs.Walk.{Step, on, done}
-use Rattle.text.specs.declared.cursor.Cursor.{Cursor}
 use Rattle.text.specs.declared.cursor.Reach.{Reach}
 use Rattle.text.specs.declared.cursor.Reach.TheVariants as reach
 use Rattle.text.specs.declared.cursor.Gap.{Gap}

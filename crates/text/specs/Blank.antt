@@ -1,5 +1,5 @@
 -- Blanks and comments (document 01, "Words and numbers").
-use Rattle.std.specs.Prelude.{ℕ, ◌+◌, List, Bool, true, false, cond, ◌||◌, length, eqb, leb}
+use Rattle.std.specs.Prelude.{ℕ, ◌+◌, List, Bool, cond, ◌||◌, length, eqb, leb}
 use Prim.Native.Char.{code}
 use Rattle.text.specs.Walk.{Step, on, done, over}
 use Rattle.text.specs.Answer.{Answer, given, refused, on_to}

@@ -1,6 +1,6 @@
 -- Bytes of a text: single ones, two side by side, and a part that spells a word.
-use Rattle.std.specs.Prelude.{ℕ, zero, suc, ◌+◌, ◌-◌, List, [], ◌∷◌, Bool, true, false, ◌&&◌, ◌||◌, length, get_or, ltb, leb, eqb}
-use Prim.Native.Char.{Char, code}
+use Rattle.std.specs.Prelude.{ℕ, zero, suc, ◌+◌, ◌-◌, List, [], ◌∷◌, Bool, true, ◌&&◌, ◌||◌, length, get_or, ltb, leb, eqb}
+use Prim.Native.Char.{code}
 use Prim.Native.String.{String, len, char_at}
 
 -- the byte at a place, 0 past the end

@@ -1,6 +1,6 @@
 -- The next item of a skipped block (document 01, "What the reader takes").
-use Rattle.std.specs.Prelude.{ℕ, List, Bool, true, false, cond, length, leb, eqb}
-use Rattle.text.specs.Answer.{Answer, given, refused, with, Piece, piece, finish, run, begin, end}
+use Rattle.std.specs.Prelude.{ℕ, List, cond, length, leb, eqb}
+use Rattle.text.specs.Answer.{Answer, given, with, Piece, piece, finish, run, begin, end}
 use Rattle.text.specs.Bytes.{byte}
 use Rattle.text.specs.Blank.{blank_at}
 use Rattle.text.specs.Token.{string_at, run_end, is_begin, is_end}

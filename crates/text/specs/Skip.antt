@@ -1,5 +1,5 @@
 -- Skipping a block whole (document 01, "What the reader takes"): "blocks hold items and items hold blocks, at most sixteen deep counting PROJECT as one".
-use Rattle.std.specs.Prelude.{ℕ, zero, suc, List, Bool, true, false, cond, ◌&&◌, length}
+use Rattle.std.specs.Prelude.{ℕ, zero, suc, List, Bool, cond, ◌&&◌, length}
 use Rattle.text.specs.Walk.{Step, on, done, over}
 use Rattle.text.specs.Answer.{Answer, given, refused, with, Piece, piece, finish, is, run, begin, end, Pass, past, closes}
 use Rattle.text.specs.Bytes.{same_part, spells}

@@ -1,5 +1,5 @@
 -- Names, strings, runs, and the next token of a place where document 01's grammar is read ("Words and numbers").
-use Rattle.std.specs.Prelude.{ℕ, ◌+◌, List, Bool, true, false, cond, ◌&&◌, ◌||◌, length, leb, ltb, eqb}
+use Rattle.std.specs.Prelude.{ℕ, ◌+◌, List, Bool, cond, ◌&&◌, ◌||◌, length, leb, eqb}
 use Prim.Native.Char.{code}
 use Rattle.text.specs.Walk.{Step, on, done, over}
 use Rattle.text.specs.Answer.{Answer, given, refused, with, Piece, piece, finish, name, string, number, begin, end}

@@ -1,5 +1,4 @@
 use Rattle.text.proofs.BlankLaws.{lines}
-use Prim.Native.Nat.{◌-◌}
 use Rattle.text.proofs.blank.line_end.Goals as goal
 
 pub loop-i-init : goal.loop-i-init

@@ -1,5 +1,4 @@
 use Rattle.text.proofs.TokenLaws.{names}
-use Prim.Native.Nat.{◌-◌}
 use Rattle.text.proofs.token.name_end.Goals as goal
 
 pub loop-i-init : goal.loop-i-init

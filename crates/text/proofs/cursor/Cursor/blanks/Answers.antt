@@ -1,5 +1,4 @@
 use Rattle.text.proofs.BlankLaws.{blanks}
-use Prim.Native.Nat.{◌-◌}
 use Rattle.text.proofs.cursor.Cursor.blanks.Goals as goal
 
 pub loop-i-init : goal.loop-i-init

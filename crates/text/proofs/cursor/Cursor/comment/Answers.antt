@@ -1,5 +1,4 @@
 use Rattle.text.proofs.BlankLaws.{comments}
-use Prim.Native.Nat.{◌-◌}
 use Rattle.text.proofs.cursor.Cursor.comment.Goals as goal
 
 pub returns-then-s-at : goal.returns-then-s-at

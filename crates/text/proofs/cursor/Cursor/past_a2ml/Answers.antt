@@ -1,5 +1,4 @@
 use Rattle.text.proofs.SkipLaws.{in-a2ml}
-use Prim.Native.Nat.{◌-◌}
 use Rattle.text.proofs.cursor.Cursor.past_a2ml.Goals as goal
 
 pub loop-i-init : goal.loop-i-init

@@ -1,5 +1,4 @@
 use Rattle.text.proofs.TokenLaws.{runs}
-use Prim.Native.Nat.{◌-◌}
 use Rattle.text.proofs.cursor.Cursor.past_run.Goals as goal
 
 pub loop-i-init : goal.loop-i-init

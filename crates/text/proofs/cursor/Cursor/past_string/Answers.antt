@@ -1,5 +1,4 @@
 use Rattle.text.proofs.TokenLaws.{strings}
-use Prim.Native.Nat.{◌-◌}
 use Rattle.text.proofs.cursor.Cursor.past_string.Goals as goal
 
 pub returns-then-s-at : goal.returns-then-s-at

@@ -1,0 +1,5 @@
+use Rattle.text.proofs.TokenLaws.{mark-words}
+use Rattle.text.proofs.token.is_begin.Goals as goal
+
+pub returns : goal.returns
+returns c = search mark-words

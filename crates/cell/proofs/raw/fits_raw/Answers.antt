@@ -2,12 +2,12 @@
 use mathlib.Core.Path.{ap, ◌∙◌}
 use mathlib.Core.Bool.{true, false}
 use Prim.Native.Nat.{ℕ}
-use lib.IntN.{pos, nat_abs}
+use lib.IntN.{pos}
 use Rattle.cell.specs.declared.kind.Shape.{Shape}
 use Rattle.cell.specs.Kind.{shape_of}
 use Rattle.cell.specs.Mask.{fits_mask}
 use Rattle.cell.specs.Sign.{fits_type}
-use Rattle.cell.proofs.Signed.{Is, back, is-param, is-lit, is-test, is-abs}
+use Rattle.cell.proofs.Signed.{back, is-param, is-lit, is-test, is-abs}
 use Rattle.cell.proofs.Shapes.{bytes-of}
 use Rattle.cell.proofs.Raws.{fits-none, fits_neg, fits-pos}
 use Rattle.cell.proofs.raw.fits_raw.Goals as goal

@@ -2,10 +2,9 @@
 use mathlib.Core.Path.{ap, ◌∙◌}
 use Prim.Native.Nat.{ℕ}
 use native.Mathlib.Omega.{arith}
-use lib.IntN.{nat_abs}
 use Rattle.cell.specs.Mask.{fits_mask, inserted}
 use Rattle.cell.specs.Sign.{bits_of}
-use Rattle.cell.proofs.Signed.{Is, back, is-param, is-abs}
+use Rattle.cell.proofs.Signed.{is-param, is-abs}
 use Rattle.cell.proofs.Raws.{stored-none, stored_some, fit-size, fit-mask}
 use Rattle.cell.proofs.raw.stored_with.Goals as goal
 

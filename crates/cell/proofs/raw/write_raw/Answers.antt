@@ -9,7 +9,7 @@ use Rattle.cell.specs.declared.kind.Shape.{Shape}
 use Rattle.cell.specs.Kind.{shape_of}
 use Rattle.cell.specs.Raw.{fits_raw, stored_with, written}
 use Rattle.cell.proofs.Shapes.{bytes-of}
-use Rattle.cell.proofs.Signed.{Is, back, is-param}
+use Rattle.cell.proofs.Signed.{back, is-param}
 use Rattle.cell.proofs.Raws.{write-in, write-out, unfit-kept, inside-le}
 use Rattle.cell.proofs.raw.write_raw.Goals as goal
 

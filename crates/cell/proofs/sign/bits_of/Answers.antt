@@ -4,7 +4,7 @@ use mathlib.Core.Bool.{true, false}
 use Prim.Native.Nat.{◌-◌}
 use native.Mathlib.Omega.{arith}
 use lib.IntN.{pos, nat_abs}
-use Rattle.cell.proofs.Signed.{Is, back, is-param, is-lit, is-test, is-abs}
+use Rattle.cell.proofs.Signed.{is-param, is-lit, is-test, is-abs}
 use Rattle.cell.proofs.Types.{neg_bits, pos-bits}
 use Rattle.cell.proofs.sign.bits_of.Goals as goal
 

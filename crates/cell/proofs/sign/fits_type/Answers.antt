@@ -6,7 +6,7 @@ use lib.Dec.{leb, ltb}
 use lib.IntN.{ℤ, pos, nat_abs}
 use mir.Syntax.{w64}
 use mir.Val.{SFits}
-use Rattle.cell.proofs.Signed.{Is, back, is-param, is-lit, is-test, is-abs}
+use Rattle.cell.proofs.Signed.{back, is-param, is-lit, is-test, is-abs}
 use Rattle.cell.proofs.Types.{neg-signed, neg-unsigned, pos-signed, pos-unsigned}
 use Rattle.cell.proofs.sign.fits_type.Goals as goal
 

@@ -1,4 +1,3 @@
-use Prim.Native.Nat.{◌-◌}
 use Rattle.print.proofs.SliceLaws.{rests}
 use Rattle.print.proofs.slice.put_slice.Goals as goal
 

@@ -1,5 +1,4 @@
 use Rattle.lines.proofs.Fields.{places}
-use Prim.Native.Nat.{◌-◌}
 use Rattle.lines.proofs.field.place_from.Goals as goal
 
 pub loop-i-init : goal.loop-i-init

@@ -1,9 +1,9 @@
 -- Document 01's examples of place, computed: P10, the image's last byte, and one of each refusal.
 use Prim.Native.Nat.{ℕ}
 use mathlib.Core.Path.{◌≡◌, refl}
-use mathlib.Core.List.{List, [], ◌∷◌}
+use mathlib.Core.List.{[], ◌∷◌}
 use mathlib.Core.Bool.{Bool, true, false}
-use Rattle.number.specs.Answer.{Answer, given, refused}
+use Rattle.number.specs.Answer.{given, refused}
 use Rattle.cell.specs.Kind.{UBYTE, SBYTE, UWORD, shapes, shape_of}
 use Rattle.cell.specs.Bytes.{number}
 use Rattle.cell.specs.Raw.{raw_of, raw_at}

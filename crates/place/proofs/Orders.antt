@@ -1,6 +1,6 @@
 -- Order of Position and the rules of place, by the tests that the code makes.
-use Prim.Native.Nat.{ℕ, ◌<◌, ◌≤◌}
-use mathlib.Core.Path.{◌≡◌, refl, sym, ◌∙◌, ap}
+use Prim.Native.Nat.{◌<◌, ◌≤◌}
+use mathlib.Core.Path.{◌≡◌, refl}
 use mathlib.Core.List.{List, [], ◌∷◌}
 use mathlib.Core.Bool.{Bool, true, false, not, ◌&&◌, ◌||◌, and_assoc, and-true}
 use borrow.Author.Tests.{lt-ltb, le-ltb}
@@ -10,7 +10,6 @@ use Rattle.place.specs.Order.{insert, in_order, parts}
 use Rattle.place.specs.Rules.{both, apart, apart_from, all_apart, distinct, comes_before, counted, same, matching, sound_layout}
 use Rattle.place.specs.declared.order.Entry.{Entry}
 use Rattle.place.specs.declared.order.Layout.{Layout}
-use Rattle.place.specs.declared.order.Role.{Role}
 use Rattle.place.specs.declared.order.Role.TheVariants.{Values, PointsX, PointsY, CountX, CountY}
 use Rattle.place.specs.declared.order.Part.{Part}
 use Rattle.place.specs.declared.rules.Need.{Need}
@@ -90,4 +89,4 @@ pub is-sound : (n : Need) (l : Layout) (a b c : Bool) → a ≡ matching n l →
 unfolding sound_layout
 is-sound n l a b c p q r = rw (p, q, r)
 
-pub ruleset rules = (are-counted, are-matching, is-sound, rules)
+pub ruleset joined = (are-counted, are-matching, is-sound, rules)

@@ -1,7 +1,7 @@
 -- One part after another, by the cases that the code has.
 use Prim.Native.Nat.{ℕ, ◌+◌, ◌<◌, ◌≤◌, ◌^◌}
 use native.Mathlib.Omega.{arith}
-use mathlib.Core.Path.{◌≡◌, refl, sym, ◌∙◌, ap, subst}
+use mathlib.Core.Path.{◌≡◌, subst}
 use mathlib.Core.List.{List, [], ◌∷◌}
 use mathlib.Core.Bool.{Bool, true, false, ◌&&◌}
 use borrow.Author.Rules.{rules}
@@ -13,7 +13,7 @@ use Rattle.place.specs.Align.{alignment}
 use Rattle.place.specs.Order.{in_order, parts}
 use Rattle.place.specs.Rules.{sound_layout}
 use Rattle.place.specs.Told.{told_count, told_placed}
-use Rattle.place.specs.Walk.{start_of, points_of, within, count_at, values_at, x_at, y_at, count_xat, count_yat, standing, place_one, step, all_placed, start, placement, free_of}
+use Rattle.place.specs.Walk.{start_of, points_of, within, count_at, values_at, x_at, y_at, count_xat, count_yat, place_one, step, all_placed, start, placement, free_of}
 use Rattle.place.specs.declared.order.Layout.{Layout}
 use Rattle.place.specs.declared.order.Role.TheVariants.{Values, PointsX, PointsY, CountX, CountY}
 use Rattle.place.specs.declared.order.Part.{Part}

@@ -1,7 +1,7 @@
 -- What placement keeps: each stored count lies inside the image, and an axis has at most its most points.
 use Prim.Native.Nat.{ℕ, ◌≤◌}
 use native.Mathlib.Omega.{arith}
-use mathlib.Core.Path.{◌≡◌, refl, sym, ◌∙◌, ap, subst}
+use mathlib.Core.Path.{◌≡◌, refl, subst}
 use mathlib.Core.List.{List, [], ◌∷◌}
 use mathlib.Core.Bool.{Bool, true, false, cond, ◌&&◌, ◌||◌}
 use borrow.Author.Tests.{leb-true}
@@ -9,7 +9,6 @@ use lib.Dec.{leb, ltb}
 use lib.IntN.{ℤ, pos, negsuc}
 use Rattle.number.specs.Answer.{Answer, given, refused}
 use Rattle.cell.specs.Kind.{shape_of}
-use Rattle.cell.specs.Raw.{raw_at}
 use Rattle.place.specs.Align.{alignment}
 use Rattle.place.specs.Inside.{inside}
 use Rattle.place.specs.Order.{insert, in_order, parts}

@@ -2,7 +2,7 @@
 use Prim.Native.Nat.{ℕ, ◌+◌, ◌*◌, ◌^◌, ◌<◌, ◌≤◌}
 use native.Mathlib.Nat.{mul-le-mul}
 use native.Mathlib.Omega.{arith}
-use mathlib.Core.Path.{◌≡◌, refl, sym, ◌∙◌, ap}
+use mathlib.Core.Path.{◌≡◌}
 use mathlib.Core.List.{List}
 use mathlib.Core.Bool.{Bool, true, false, cond, not, ◌&&◌, ◌||◌}
 use borrow.Author.Tests.{le-leb, lt-leb}
@@ -15,7 +15,7 @@ use Rattle.cell.specs.Kind.{shape_of}
 use Rattle.cell.specs.declared.kind.Shape.{Shape}
 use Rattle.cell.proofs.Shapes.{bytes-of}
 use Rattle.place.specs.Inside.{inside}
-use Rattle.place.specs.Judge.{bytes_of, elements_stored, all_inside, weighed, after, judged_object}
+use Rattle.place.specs.Judge.{bytes_of, elements_stored, all_inside, weighed, judged_object}
 use Rattle.place.specs.Told.{told_placed}
 use Rattle.place.specs.Walk.{placement}
 use Rattle.place.specs.declared.judge.Standing.{Standing}

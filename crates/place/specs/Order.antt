@@ -1,8 +1,6 @@
 -- "Parts stand in order of Position"
-use Rattle.std.specs.Prelude.{ℕ, List, [], ◌∷◌, Bool, true, false, cond, ltb}
-use Rattle.place.specs.declared.order.Entry.{Entry}
+use Rattle.std.specs.Prelude.{List, [], ◌∷◌, cond, ltb}
 use Rattle.place.specs.declared.order.Layout.{Layout}
-use Rattle.place.specs.declared.order.Role.{Role}
 use Rattle.place.specs.declared.order.Role.TheVariants.{Values, PointsX, PointsY, CountX, CountY}
 use Rattle.place.specs.declared.order.Part.{Part}
 use Rattle.place.specs.declared.order.Two.{Two}

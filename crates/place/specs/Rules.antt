@@ -1,5 +1,5 @@
 -- The rules of place that a layout keeps, else it is 11. A part that the layout has not breaks none.
-use Rattle.std.specs.Prelude.{ℕ, List, [], ◌∷◌, Bool, true, false, not, ◌&&◌, ◌||◌, ltb, eqb}
+use Rattle.std.specs.Prelude.{List, [], ◌∷◌, Bool, true, false, not, ◌&&◌, ◌||◌, ltb, eqb}
 use Rattle.place.specs.declared.order.Entry.{Entry}
 use Rattle.place.specs.declared.order.Layout.{Layout}
 use Rattle.place.specs.declared.rules.Need.{Need}

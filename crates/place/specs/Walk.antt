@@ -1,9 +1,8 @@
 -- Where an object's parts stand: part after part, the first refusal stays.
-use Rattle.std.specs.Prelude.{ℕ, ◌+◌, ◌*◌, ◌-◌, List, [], ◌∷◌, Bool, true, false, cond, ◌&&◌, ◌||◌, ltb, leb, ℤ, pos, negsuc}
+use Rattle.std.specs.Prelude.{ℕ, ◌+◌, ◌*◌, ◌-◌, List, [], ◌∷◌, Bool, true, false, cond, ◌&&◌, ◌||◌, leb, ℤ, pos, negsuc}
 use Rattle.number.specs.Answer.{Answer, given, refused}
 use Rattle.cell.specs.Kind.{shape_of}
 use Rattle.cell.specs.Raw.{raw_at}
-use Rattle.cell.specs.declared.kind.Shape.{Shape}
 use Rattle.place.specs.Align.{alignment, aligned}
 use Rattle.place.specs.Inside.{inside}
 use Rattle.place.specs.Order.{in_order, parts}
@@ -15,7 +14,6 @@ use Rattle.place.specs.declared.order.Part.{Part}
 use Rattle.place.specs.declared.rules.Axis.{Axis}
 use Rattle.place.specs.declared.rules.Need.{Need}
 use Rattle.place.specs.declared.walk.Ground.{Ground}
-use Rattle.place.specs.declared.walk.Places.{Places}
 use Rattle.place.specs.declared.walk.Reached.{Reached}
 
 -- "The first part stands at the object's address. Each later part starts at the next absolute address that its alignment divides."

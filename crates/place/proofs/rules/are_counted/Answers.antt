@@ -1,0 +1,6 @@
+-- `place::rules::are_counted` meets its contract. Assumes nothing.
+use Rattle.place.proofs.Orders.{joined}
+use Rattle.place.proofs.rules.are_counted.Goals as goal
+
+pub returns : goal.returns
+returns c = search joined

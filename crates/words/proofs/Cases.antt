@@ -1,7 +1,7 @@
 -- The class between two places, and the kinds that the table's numbers stand for, by the tests that the code makes.
 use Prim.Native.Nat.{ℕ, ◌+◌, ◌*◌, ◌-◌, ◌/◌, ◌%◌, ◌<◌, ◌≤◌}
 use native.Mathlib.Omega.{arith}
-use mathlib.Core.Path.{◌≡◌, sym, ◌∙◌}
+use mathlib.Core.Path.{◌≡◌, sym}
 use mathlib.Core.List.{List}
 use mathlib.Core.Bool.{false, and-false}
 use borrow.Author.Tests.{ne_eqb, le-leb, lt-leb}

@@ -11,7 +11,7 @@ use lib.ListN.{length, take, drop, get_or, length-take, length-drop}
 use mir.Syntax.{w64}
 use mir.Val.{Fits}
 use Rattle.words.specs.Kind.{Kind}
-use Rattle.words.specs.Row.{Row, row, bytes, same, kind_in}
+use Rattle.words.specs.Row.{Row, row, same, kind_in}
 use Rattle.words.specs.Table.{word_rows}
 use Rattle.words.specs.Class.{class_of}
 use Rattle.words.specs.Inner.{kind_of, sought, span, Rise, Ruled}

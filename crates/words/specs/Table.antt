@@ -1,7 +1,7 @@
 -- Document 000's words and what document 01 does with each: a row to a line, in the order of the alphabet.
 -- Five of them stand in document 000's index or hierarchy tables alone, and count as listed: AXIS_RESCALE_4, _5, _Y, _Z and VAR_SEPERATOR.
 use Rattle.std.specs.Prelude.{List, [], ◌∷◌}
-use Rattle.words.specs.Kind.{Kind, taken_block, taken_plain, taken_choice, skipped_block, skipped_plain, listed_only}
+use Rattle.words.specs.Kind.{taken_block, taken_plain, taken_choice, skipped_block, skipped_plain, listed_only}
 use Rattle.words.specs.Row.{Row, word}
 
 unfoldable pub word_rows : List Row

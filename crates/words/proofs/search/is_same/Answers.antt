@@ -1,4 +1,3 @@
-use Prim.Native.Nat.{◌-◌}
 use Rattle.words.proofs.Passing.{along}
 use Rattle.words.proofs.search.is_same.Goals as goal
 

@@ -1,4 +1,3 @@
-use Prim.Native.Nat.{◌-◌}
 use Rattle.words.proofs.Passing.{seeking}
 use Rattle.words.proofs.search.seek.Goals as goal
 

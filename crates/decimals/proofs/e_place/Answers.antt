@@ -1,4 +1,3 @@
-use Prim.Native.Nat.{◌-◌}
 use Rattle.decimals.proofs.RunLaws.{stands}
 use Rattle.decimals.proofs.e_place.Goals as goal
 

@@ -1,4 +1,3 @@
-use Prim.Native.Nat.{◌-◌}
 use Rattle.decimals.proofs.GatherLaws.{gather-stop, gather-on, gathering}
 use Rattle.decimals.proofs.gather.gather.Goals as goal
 
@@ -12,8 +11,7 @@ pub digit_of-d-requires : goal.digit_of-d-requires
 digit_of-d-requires c = search gathering
 
 pub returns-then-d-ge10 : goal.returns-then-d-ge10
-returns-then-d-ge10 c =
-    gather-stop c.args.s.now c.args.at _ c.loop-i.i c.loop-i.m c.loop-i.z c.loop-i.invariant c.digit_of-d.result c.digit_of-d.ensures c.loop-i-test.true c.if-d-ge10.true
+returns-then-d-ge10 c = gather-stop _ _ _ _ _ _ c.loop-i.invariant _ c.digit_of-d.ensures c.loop-i-test.true c.if-d-ge10.true
 
 pub added-p-requires : goal.added-p-requires
 added-p-requires c = search gathering
@@ -28,8 +26,7 @@ pub loop-i-smaller : goal.loop-i-smaller
 loop-i-smaller c = search gathering
 
 pub loop-i-preserved : goal.loop-i-preserved
-loop-i-preserved c =
-    gather-on c.args.s.now c.args.at _ c.loop-i.i c.loop-i.m c.loop-i.z c.loop-i.invariant c.digit_of-d.result c.digit_of-d.ensures c.loop-i-test.true c.if-d-ge10.false c.added-p.result c.added-p.ensures c.if-p-gt-MOST_WHOLE.false
+loop-i-preserved c = gather-on _ _ _ _ _ _ c.loop-i.invariant _ c.digit_of-d.ensures c.loop-i-test.true c.if-d-ge10.false _ c.added-p.ensures c.if-p-gt-MOST_WHOLE.false
 
 pub returns : goal.returns
 returns c = search gathering

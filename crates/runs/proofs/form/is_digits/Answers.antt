@@ -1,5 +1,4 @@
-use Rattle.number.proofs.FormLaws.{digit-runs}
-use Prim.Native.Nat.{◌-◌}
+use Rattle.number.proofs.FormLaws.{digits-bad, digit-runs}
 use Rattle.runs.proofs.form.is_digits.Goals as goal
 
 pub returns-then-s-eq0 : goal.returns-then-s-eq0
@@ -24,7 +23,7 @@ pub loop-i-preserved : goal.loop-i-preserved
 loop-i-preserved c = search digit-runs
 
 pub returns-else-digit_of-lt10 : goal.returns-else-digit_of-lt10
-returns-else-digit_of-lt10 c = search digit-runs
+returns-else-digit_of-lt10 c = digits-bad _ _ c.loop-i.invariant _ c.loop-i-test.true c.digit_of.ensures c.if-digit_of-lt10.false
 
 pub returns : goal.returns
 returns c = search digit-runs

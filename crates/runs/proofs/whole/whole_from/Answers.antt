@@ -1,5 +1,4 @@
 use Rattle.number.proofs.Wholes.{wholes, times-fits}
-use Prim.Native.Nat.{◌-◌}
 use Rattle.runs.proofs.whole.whole_from.Goals as goal
 
 pub returns-then-s-at : goal.returns-then-s-at

@@ -24,16 +24,16 @@ pub larger-t-requires : goal.larger-t-requires
 larger-t-requires c = search rat-funcs
 
 pub made_whole-requires : goal.made_whole-requires
-made_whole-requires c = (search rat-funcs, (search rat-funcs, search rat-funcs))
+made_whole-requires c = record { d_value = search rat-funcs; tens_le_t = (search rat-funcs, search rat-funcs) }
 
 pub made_whole-requires-then-is_formed : goal.made_whole-requires-then-is_formed
-made_whole-requires-then-is_formed c = (search rat-funcs, (search rat-funcs, search rat-funcs))
+made_whole-requires-then-is_formed c = record { d_value = search rat-funcs; tens_le_t = (search rat-funcs, search rat-funcs) }
 
 pub made_whole-requires-then-is_formed-2 : goal.made_whole-requires-then-is_formed-2
-made_whole-requires-then-is_formed-2 c = (search rat-funcs, (search rat-funcs, search rat-funcs))
+made_whole-requires-then-is_formed-2 c = record { d_value = search rat-funcs; tens_le_t = (search rat-funcs, search rat-funcs) }
 
 pub made_whole-requires-then-is_formed-3 : goal.made_whole-requires-then-is_formed-3
-made_whole-requires-then-is_formed-3 c = (search rat-funcs, (search rat-funcs, search rat-funcs))
+made_whole-requires-then-is_formed-3 c = record { d_value = search rat-funcs; tens_le_t = (search rat-funcs, search rat-funcs) }
 
 pub judge-requires : goal.judge-requires
 judge-requires c = search rat-funcs

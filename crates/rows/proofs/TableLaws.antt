@@ -3,7 +3,6 @@ use Prim.Native.Nat.{ℕ, zero, suc, ◌+◌, ◌≤◌}
 use mathlib.Core.Path.{◌≡◌, refl, sym, ◌∙◌, ap}
 use mathlib.Core.List.{List, [], ◌∷◌}
 use mathlib.Core.Bool.{◌&&◌}
-use native.Mathlib.Omega.{arith}
 use borrow.Author.Rules.{rules}
 use lib.Dec.{eqb}
 use lib.ListN.{length, get_or, take, replicate, get_or-eq_default, get_or-map}
@@ -19,15 +18,6 @@ row_count = refl
 pub need-count : length needed ≡ 9
 unfolding needed
 need-count = refl
-
--- a number that is none of those below n is not below n
-abbrev Differs : ℕ → ℕ → Type 0
-Differs zero i = Unit {0}
-Differs (suc n) i = Differs n i × (i ≡ n → ⊥)
-
-pub above : (n i : ℕ) → Differs n i → n ≤ i
-above zero i d = omega arith
-above (suc n) i d = let l : n ≤ i = above n i d.0 in omega (arith, l, d.1)
 
 -- the row at a number, and the default past all rows
 pub row-at : (t : List (List ℕ)) (d : List ℕ) (k i : ℕ) → k ≡ i → get_or t k d ≡ get_or t i d

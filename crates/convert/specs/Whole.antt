@@ -1,5 +1,5 @@
 -- Whole numbers with a sign, and the four coefficients.
-use Rattle.std.specs.Prelude.{Bool, true, false, ◌&&◌, ℕ, ◌≤◌, eqb, leb, ℤ, pos, negsuc, neg_ℤ, nat_abs}
+use Rattle.std.specs.Prelude.{Bool, false, ◌&&◌, ◌≤◌, eqb, leb, ℤ, pos, negsuc, nat_abs}
 use Rattle.convert.specs.declared.method.Coefficients.{Coefficients}
 
 -- Two whole numbers are the same.

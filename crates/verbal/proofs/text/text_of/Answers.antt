@@ -1,6 +1,9 @@
 use mathlib.Core.Path.{◌≡◌, ap, ◌∙◌}
 use native.Mathlib.Omega.{arith}
+use Prim.Native.Nat.{ℕ}
 use lib.IntN.{ℤ}
+use mir.Syntax.{w64}
+use mir.Val.{SFits}
 use Rattle.cell.proofs.Signed.{back, is-param}
 use Rattle.convert.specs.Verbal.{default_of, place_in, verbal_of}
 use Rattle.records.specs.Cells.{slot_in}
@@ -9,8 +12,8 @@ use Rattle.convert.proofs.Verbals.{walk_start, walk_here, walk-on, walk_end}
 use Rattle.verbal.proofs.text.text_of.Goals as goal
 
 -- what the machine reads back is the raw number
-last : (a : tie.Start invariant-loop decreases-loop) → let t = a.args in held (verbal_of (slot_in t.t.now t.c) t.from t.count t.first t.past (back t.raw)) ≡ held (verbal_of (slot_in t.t.now t.c) t.from t.count t.first t.past t.raw)
-last a = let t = a.args in ap (λ (z : ℤ). held (verbal_of (slot_in t.t.now t.c) t.from t.count t.first t.past z)) (is-param a.ranges.raw).same
+last : (f : ℕ → ℕ → ℕ) (from count first past : ℕ) (z : ℤ) → SFits w64 z → held (verbal_of f from count first past (back z)) ≡ held (verbal_of f from count first past z)
+last f from count first past z h = ap (λ (y : ℤ). held (verbal_of f from count first past y)) (is-param h).same
 
 pub loop-left-init : goal.loop-left-init
 loop-left-init c = let t = c.args in (omega arith, walk_start (slot_in t.t.now t.c) t.from t.count t.first t.past (back t.raw))
@@ -21,7 +24,7 @@ returns-then-has_number c =
     let l = c.loop-left in
     c.entry_text.ensures
     ∙ ap held (walk_here (slot_in t.t.now t.c) l.e (default_of (place_in t.first) (place_in t.past)) (back t.raw) c.has_number.ensures l.left c.loop-left-test.true c.if-has_number.true ∙ l.invariant.1)
-    ∙ last c
+    ∙ last (slot_in t.t.now t.c) t.from t.count t.first t.past t.raw c.ranges.raw
 
 pub loop-left-smaller : goal.loop-left-smaller
 loop-left-smaller c = omega arith
@@ -40,4 +43,4 @@ returns c =
     let l = c.loop-left in
     c.default_text.ensures
     ∙ ap held (walk_end (slot_in t.t.now t.c) l.e (default_of (place_in t.first) (place_in t.past)) (back t.raw) l.left c.loop-left-test.false ∙ l.invariant.1)
-    ∙ last c
+    ∙ last (slot_in t.t.now t.c) t.from t.count t.first t.past t.raw c.ranges.raw

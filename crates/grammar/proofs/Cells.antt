@@ -1,19 +1,18 @@
 -- Reading on the cells of some records is reading on the records.
-use Prim.Native.Nat.{ℕ, zero, suc, ◌+◌, ◌-◌, ◌≤◌, ◌<◌}
-use mathlib.Core.Path.{◌≡◌, refl, sym, ◌∙◌, ap}
+use Prim.Native.Nat.{ℕ, zero, suc, ◌+◌, ◌-◌, ◌≤◌}
+use mathlib.Core.Path.{◌≡◌, refl}
 use mathlib.Core.List.{List, [], ◌∷◌}
-use mathlib.Core.Bool.{Bool, true, false}
 use lib.ListN.{length, replicate}
 use Rattle.text.specs.Answer.{Answer, given}
 use Rattle.text.specs.Answer as text
-use Rattle.records.specs.Records.{count, slot, put, add, empty}
-use Rattle.records.specs.Cells.{room, encode, section_in, count_in, slot_in, put_in, add_in}
+use Rattle.records.specs.Records.{count, put, add, empty}
+use Rattle.records.specs.Cells.{room, encode, section_in}
 use Rattle.records.proofs.Encode.{Good, count-encode, slot-encode, put-encode, add-encode, good-put, good-add, none-good, none-encode}
 use Rattle.rows.specs.Codes.{FILE}
 use Rattle.rows.specs.Sections.{sections, file}
-use Rattle.grammar.specs.Move.{View, view, view_in, state, items, values, puts, puts_in, added, added_in, applied, applied_in, Move, went, over, refused}
+use Rattle.grammar.specs.Move.{view, view_in, state, items, values, puts, puts_in, added, applied, applied_in, Move, went, over, refused}
 use Rattle.grammar.specs.Read.{move, following, read_from, start, read}
-use Rattle.grammar.specs.Out.{Out, accepted, left, following_in, read_from_in, read_in}
+use Rattle.grammar.specs.Out.{Out, accepted, following_in, read_from_in, read_in}
 use Rattle.grammar.specs.declared.state.State.{State}
 use Rattle.grammar.specs.declared.state.Act.{Act}
 

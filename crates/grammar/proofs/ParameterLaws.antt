@@ -8,7 +8,7 @@ use borrow.Author.Rules.{rules}
 use borrow.Author.Tests.{lt-ltb, le-ltb, le-leb, lt-leb, eq-eqb, ne_eqb}
 use lib.Dec.{ltb, leb, eqb}
 use Rattle.text.proofs.ByteLaws.{via}
-use Rattle.number.specs.Decimal.{Scaled, decimal_of}
+use Rattle.number.specs.Decimal.{decimal_of}
 use Rattle.number.specs.Form.{has_form}
 use Rattle.number.specs.Answer.{in_run}
 use Rattle.number.specs.Whole.{whole_of}
@@ -30,7 +30,7 @@ use Rattle.records.specs.Cells.{section_in, count_in}
 use Rattle.records.specs.declared.Section.{Section}
 use Rattle.rows.specs.Sections.{sections, table, entry}
 use Rattle.rows.specs.Slots.{first_held, entry_sign, entry_size, entry_text}
-use Rattle.grammar.specs.Move.{View, view_in, current, decimal_slots, state, items, idle, writes, Move, went, refused, moved}
+use Rattle.grammar.specs.Move.{View, view_in, current, decimal_slots, state, items, idle, writes, went, refused, moved}
 use Rattle.grammar.specs.Parameter.{wrong, kind_of, slot_of, next_of, sec_of, low_of, high_of, after, keeping, taken_whole, taken_pairs, sign_of, decimal_in, has_entry, twice, new_record, taken_entry, taken_decimal, of_number, of_pairs, of_whole, of_decimal, taken_number, found_at, find, taken_new, of_choice, taken_name, after_text, taken_text, taken}
 use Rattle.grammar.specs.declared.state.State.{State}
 use Rattle.grammar.specs.declared.state.Act.{Act}

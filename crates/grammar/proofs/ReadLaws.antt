@@ -6,7 +6,7 @@ use mathlib.Core.Bool.{Bool, true, false, cond, ◌&&◌}
 use native.Mathlib.Omega.{arith}
 use borrow.Author.Rules.{rules}
 use borrow.Author.Tests.{eq-eqb, ne_eqb, lt-ltb, le-ltb}
-use lib.Dec.{eqb, ltb}
+use lib.Dec.{ltb}
 use lib.ListN.{length, set, replicate, length-set, length-replicate}
 use Rattle.text.specs.Answer.{Answer, given, told}
 use Rattle.text.specs.Answer as text
@@ -14,7 +14,7 @@ use Rattle.text.specs.Token.{next_token}
 use Rattle.text.specs.declared.cursor.Cursor.{Cursor}
 use Rattle.text.specs.declared.cursor.Token.{Token}
 use Rattle.text.specs.declared.cursor.Token.TheVariants as token
-use Rattle.records.specs.Cells.{room, encode, section_in, place, count_in, put_in, add_in}
+use Rattle.records.specs.Cells.{room, section_in, place, count_in, put_in, add_in}
 use Rattle.records.specs.declared.Section.{Section}
 use Rattle.rows.specs.Sections.{sections}
 use Rattle.grammar.specs.Move.{View, view_in, state, items, values, puts_in, added_in, applied_in, Move, went, over, refused, moved}

@@ -3,7 +3,7 @@ use Prim.Native.Nat.{ℕ, zero, suc, ◌+◌, ◌-◌, ◌≤◌, ◌<◌, min}
 use lib.Dec.{eqb}
 use Rattle.number.specs.Decimal.{Scaled}
 use Rattle.number.specs.Most.{most_objects, most_methods, most_tables, most_layouts, most_entries, most_axes}
-use mathlib.Core.Path.{◌≡◌, refl, sym, ◌∙◌, ap, subst}
+use mathlib.Core.Path.{◌≡◌, refl, sym, ◌∙◌, ap}
 use mathlib.Core.List.{List, [], ◌∷◌, ◌++◌}
 use mathlib.Core.Bool.{and-false}
 use native.Mathlib.Omega.{arith}
@@ -12,7 +12,7 @@ use borrow.Author.Rules.{rules}
 use borrow.Author.Tests.{le-ltb}
 use lib.ListN.{length, take}
 use lib.Seq.{take-nil}
-use Rattle.records.specs.Cells.{section_in, base_in, count_in, slot_in, put_in, add_in}
+use Rattle.records.specs.Cells.{section_in, count_in, slot_in, put_in, add_in}
 use Rattle.records.specs.declared.Section.{Section}
 use Rattle.rows.specs.Sections.{sections}
 use Rattle.grammar.specs.Move.{view_in, current, decimal_slots, values, puts_in, applied_in}

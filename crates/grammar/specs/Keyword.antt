@@ -1,12 +1,12 @@
 -- A token where a keyword is expected: bare, after `/begin`, after `/end` (document 01, "What the reader takes" and "Numbers we answer with").
-use Rattle.std.specs.Prelude.{ℕ, zero, suc, ◌+◌, ◌-◌, List, Bool, true, false, cond, not, ◌&&◌, ◌||◌, length, ltb, leb, eqb}
+use Rattle.std.specs.Prelude.{ℕ, zero, suc, ◌+◌, ◌-◌, List, Bool, true, cond, not, ◌&&◌, ◌||◌, length, ltb, leb, eqb}
 use Rattle.text.specs.Answer.{Answer, given}
 use Rattle.text.specs.Answer as piece
 use Rattle.text.specs.Skip.{skip_block}
 use Rattle.words.specs.Kind as word
 use Rattle.words.specs.Class.{class_at}
 use Rattle.rows.specs.Codes.{FILE, ANY, PROJECT, MODULE, CHARACTERISTIC, AXIS-DESCR, CURVE, MAP}
-use Rattle.rows.specs.Sections.{object, axis, none}
+use Rattle.rows.specs.Sections.{object, axis}
 use Rattle.rows.specs.Slots.{object_type}
 use Rattle.rows.specs.Rows.{rows, needed}
 use Rattle.rows.specs.Numbered.{row_at, first_param, need_at}

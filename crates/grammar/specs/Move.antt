@@ -1,7 +1,6 @@
 -- What a token leads to: the next state and what is written into the records, or a refusal.
 use Rattle.std.specs.Prelude.{ℕ, suc, ◌+◌, ◌-◌, min, List, [], ◌∷◌, take, eqb}
 use Rattle.number.specs.Decimal.{Scaled}
-use Rattle.text.specs.declared.cursor.Cursor.{Cursor}
 use Rattle.records.specs.Records.{count, slot, put, add}
 use Rattle.records.specs.Cells.{section_in, count_in, slot_in, put_in, add_in}
 use Rattle.records.specs.declared.Section.{Section}

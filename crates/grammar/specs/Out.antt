@@ -5,7 +5,7 @@ use Rattle.text.specs.Answer as text
 use Rattle.records.specs.Cells.{room, encode, section_in, add_in}
 use Rattle.rows.specs.Codes.{FILE}
 use Rattle.rows.specs.Sections.{sections, file}
-use Rattle.grammar.specs.Move.{View, view_in, state, items, applied_in, Move, went, over, refused}
+use Rattle.grammar.specs.Move.{view_in, state, items, applied_in, Move, went, over, refused}
 use Rattle.grammar.specs.Read.{move, read}
 use Rattle.grammar.specs.declared.state.State.{State}
 use Rattle.grammar.specs.declared.state.ReadAnswer as code

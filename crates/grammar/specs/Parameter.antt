@@ -12,7 +12,7 @@ use Rattle.convert.specs.Limit.{at_most}
 use Rattle.words.specs.Kind as word
 use Rattle.words.specs.Class.{class_at}
 use Rattle.records.specs.Records.{most_of}
-use Rattle.rows.specs.Sections.{sections, entry, table, none}
+use Rattle.rows.specs.Sections.{sections, entry, table}
 use Rattle.rows.specs.Kinds.{name_kind, string_kind, whole_kind, choice_kind, new_kind, points_kind, alignment_kind, nought_kind, upper_kind, pairs_kind, number_kind, text_kind}
 use Rattle.rows.specs.Numbered.{param_at}
 use Rattle.rows.specs.Slots.{own_name, own_name_past, first_held, entry_sign, entry_size, entry_text}

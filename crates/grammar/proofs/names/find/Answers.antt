@@ -2,10 +2,9 @@ use Rattle.text.proofs.LikeLaws.{compare-start, compare-not, compare-all, compar
 use Rattle.grammar.proofs.NameLaws.{seeks, seek-end, seek-on, seek-near, seek_found}
 use native.Mathlib.Omega.{arith}
 use borrow.Author.Rules.{rules}
-use mathlib.Core.Logic.{⊎_elim}
 use mathlib.Core.Path.{refl}
-use Prim.Native.Nat.{◌-◌}
 use Rattle.grammar.proofs.names.find.Goals as goal
+use Rattle.grammar.proofs.names.find.Goals.{then-is_like+else-k-eq0+then-byte_at-first, then-is_like+else-k-eq0+else-byte_at-first+then-byte_at, else-is_like}
 
 pub returns-then-e-a : goal.returns-then-e-a
 returns-then-e-a c = search seeks
@@ -86,7 +85,16 @@ pub records-smaller : goal.records-smaller
 records-smaller c = search seeks
 
 pub records-preserved : goal.records-preserved
-records-preserved c = seek-on _ _ _ _ _ _ c.section_of-c.ensures _ c.count-count.ensures _ _ c.records.invariant c.if-count-i.false _ _ c.get-from.ensures c.get-to.ensures (⊎_elim (λ w. compare-first _ _ _ _ _ _ _ _ w.1.inv (λ z. omega (arith, w.2.left, z)) _ _ w.3.ensures c.byte_at-first.ensures w.4.taken) (⊎_elim (λ w. compare-other _ _ _ _ _ _ _ _ w.1.inv (λ z. omega (arith, w.2.left, z)) _ _ w.5.ensures w.6.ensures w.7.taken) (λ w. compare-not _ _ _ _ _ _ _ _ _ c.if-e-a.false refl c.one_before.ensures c.byte_at-last.ensures _ c.is_like.ensures w.left)) c.if-is_like.branch)
+records-preserved c =
+    seek-on _ _ _ _ _ _ c.section_of-c.ensures _ c.count-count.ensures _ _ c.records.invariant c.if-count-i.false _ _ c.get-from.ensures c.get-to.ensures
+    (elim c.if-is_like.branch [
+      | then-is_like+else-k-eq0+then-byte_at-first w ↦
+          compare-first _ _ _ _ _ _ _ _ w.loop-k.invariant (λ z. omega (arith, w.if-k-eq0.false, z)) _ _ w.byte_at.ensures c.byte_at-first.ensures w.if-byte_at-first.true
+      | then-is_like+else-k-eq0+else-byte_at-first+then-byte_at w ↦
+          compare-other _ _ _ _ _ _ _ _ w.loop-k.invariant (λ z. omega (arith, w.if-k-eq0.false, z)) _ _ w.byte_at-in-loop-k.ensures w.byte_at-in-loop-k-2.ensures w.if-byte_at.true
+      | else-is_like w ↦
+          compare-not _ _ _ _ _ _ _ _ _ c.if-e-a.false refl c.one_before.ensures c.byte_at-last.ensures _ c.is_like.ensures w.if-is_like.false
+    ])
 
 pub returns-then-count-i : goal.returns-then-count-i
 returns-then-count-i c = seek-end _ _ _ _ _ _ c.section_of-c.ensures _ c.count-count.ensures _ _ c.records.invariant c.if-count-i.true

@@ -1,6 +1,5 @@
 use Rattle.grammar.proofs.ParameterLaws.{havings, having-on}
 use Rattle.grammar.specs.Move.{view_in}
-use Prim.Native.Nat.{◌-◌}
 use Rattle.grammar.proofs.parameter.has_number.Goals as goal
 
 pub count_of-count-requires : goal.count_of-count-requires

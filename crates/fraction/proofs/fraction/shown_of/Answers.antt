@@ -31,4 +31,4 @@ returns-in-2 c =
     shown-words p (sized p.first (omega arith) c.size-in-2.ensures) (sized p.second (omega arith) c.size-in-2-2.ensures) c.in-2.is
 
 pub returns-in_default : goal.returns-in_default
-returns-in_default c = shown-none c.args.p c.in-1.rest.0.1 c.in-1.rest.1
+returns-in_default c = shown-none c.args.p (omega arith) (omega arith)

@@ -1,5 +1,5 @@
 -- What a person types, by the tests that the code makes.
-use Prim.Native.Nat.{ℕ, zero, suc, ◌-◌, ◌<◌, ◌≤◌, ◌^◌}
+use Prim.Native.Nat.{ℕ, ◌-◌, ◌<◌, ◌≤◌, ◌^◌}
 use native.Mathlib.Omega.{arith}
 use mathlib.Core.Path.{◌≡◌, refl, sym, ◌∙◌, ap}
 use mathlib.Core.List.{List, [], ◌∷◌}
@@ -7,13 +7,13 @@ use mathlib.Core.Bool.{Bool, true, false, cond, ◌&&◌, and-false}
 use borrow.Author.Tests.{eq-eqb, ne_eqb, lt-leb, leb-true}
 use borrow.Author.Rules.{rules}
 use lib.Dec.{leb}
-use lib.IntN.{ℤ, pos, negsuc, ◌-ℤ◌}
+use lib.IntN.{ℤ}
 use lib.ListN.{length, get_or, take, drop, length-drop}
 use lib.Seq.{take_all}
 use lib.Signed.{mag}
 use mir.Syntax.{w64}
-use mir.Val.{SFits, to_z, of_z}
-use mir.Facts.{to_z-of_z, to_z_pos}
+use mir.Val.{to_z, of_z}
+use mir.Facts.{to_z-of_z}
 use Rattle.number.specs.Answer.{Answer, given, refused}
 use Rattle.number.specs.Digits.{digit_of, value_on, all_digits}
 use Rattle.number.specs.Decimal.{signs, minus}
@@ -106,6 +106,6 @@ module _ (s : List ℕ) (neg : Bool) (a : neg ≡ minus s) (r : WholeAnswer) (e 
     raw-low = at_most (most_signed neg) n (drop (signs s) s) (sym (ap told_whole h) ∙ e)
 
     pub raw-given : (z : ℤ) → mag z < 2 ^ 63 → z ≡ signed_of neg n → given (to_z w64 (of_z w64 z)) ≡ raw_typed s
-    raw-given z l q = ap given (to_z-of_z (record { sfits = l }) ∙ q) ∙ sym (typed ∙ ap (λ (x : WholeAnswer). with_sign neg (told_whole x)) h)
+    raw-given z l q = ap given (to_z-of_z {w = w64} (record { sfits = l }) ∙ q) ∙ sym (typed ∙ ap (λ (x : WholeAnswer). with_sign neg (told_whole x)) h)
 
 pub ruleset raws = (raw-none, raw-low, raw-given, rules)

@@ -1,5 +1,5 @@
 -- What a person types: a part's letter, a raw number.
-use Rattle.std.specs.Prelude.{ℕ, ◌-◌, ◌^◌, List, Bool, true, false, cond, ℤ, pos, neg_ℤ, length, get_or, drop, eqb}
+use Rattle.std.specs.Prelude.{ℕ, List, Bool, cond, ℤ, length, get_or, drop, eqb}
 use Rattle.number.specs.Answer.{Answer, given, refused}
 use Rattle.number.specs.Decimal.{signs, minus}
 use Rattle.number.specs.Signed.{signed_of, most_signed}

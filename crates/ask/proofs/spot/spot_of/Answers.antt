@@ -1,7 +1,6 @@
 use Rattle.ask.proofs.Spots.{spots}
-use mathlib.Core.Logic.{⊎_elim}
-use Prim.Native.Nat.{◌-◌}
 use Rattle.ask.proofs.spot.spot_of.Goals as goal
+use Rattle.ask.proofs.spot.spot_of.Goals.{then-x-i-eq-LF, else-x-i-eq-LF}
 
 pub loop-i-init : goal.loop-i-init
 loop-i-init c = search spots
@@ -25,7 +24,7 @@ pub loop-i-smaller : goal.loop-i-smaller
 loop-i-smaller c = search spots
 
 pub loop-i-preserved : goal.loop-i-preserved
-loop-i-preserved c = ⊎_elim (λ w. search spots) (λ w. search spots) c.if-x-i-eq-LF.branch
+loop-i-preserved c = elim c.if-x-i-eq-LF.branch [ then-x-i-eq-LF w ↦ search spots | else-x-i-eq-LF w ↦ search spots ]
 
 pub returns : goal.returns
 returns c = search spots

@@ -1,4 +1,3 @@
-use Prim.Native.Nat.{◌-◌}
 use Rattle.places.proofs.Divides.{divisions}
 use Rattle.places.proofs.divide.divided.Goals as goal
 

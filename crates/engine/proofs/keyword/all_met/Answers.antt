@@ -1,5 +1,4 @@
 use Rattle.grammar.proofs.KeywordLaws.{meetings}
-use Prim.Native.Nat.{◌-◌}
 use Rattle.engine.proofs.keyword.all_met.Goals as goal
 
 pub loop-i-init : goal.loop-i-init

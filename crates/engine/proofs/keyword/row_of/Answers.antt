@@ -1,5 +1,4 @@
 use Rattle.grammar.proofs.KeywordLaws.{rowings}
-use Prim.Native.Nat.{◌-◌}
 use Rattle.engine.proofs.keyword.row_of.Goals as goal
 
 pub first_row-i-requires : goal.first_row-i-requires

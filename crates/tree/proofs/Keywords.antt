@@ -17,7 +17,7 @@ use Rattle.rows.specs.Codes.{FILE, ANY, PROJECT}
 use Rattle.rows.specs.Row.{opening, Row, outside}
 use Rattle.rows.specs.Rows.{rows, needed, keeps}
 use Rattle.rows.specs.Numbered.{row_at, first_param}
-use Rattle.grammar.specs.Move.{view, state, begun, ended, finished, applied, Move, refused}
+use Rattle.grammar.specs.Move.{view, state, begun, ended, finished, applied, Move}
 use Rattle.grammar.specs.Parameter.{a_name, a_begin, an_end}
 use Rattle.grammar.specs.Keyword.{row_of, is_row, may_stand, is_often, counting, stands, plain_row, home_of, bare_word, levels_in, of_skip, skips, opens, begun_word, all_met, ends, holder_of, closes, ended_word, item, after_begin, after_end}
 use Rattle.grammar.specs.Read.{on_piece, read_from}

@@ -17,9 +17,9 @@ use Rattle.words.specs.Kind as word
 use Rattle.words.specs.Class.{class_at}
 use Rattle.records.specs.Records.{most_of, count}
 use Rattle.rows.specs.Sections.{sections, entry}
-use Rattle.rows.specs.Row.{Param, whole}
+use Rattle.rows.specs.Row.{Param}
 use Rattle.rows.specs.Numbered.{param_at}
-use Rattle.grammar.specs.Move.{view, writes, applied, Move, went, refused}
+use Rattle.grammar.specs.Move.{view, writes, applied, Move, went}
 use Rattle.grammar.specs.Parameter.{a_name, a_string, a_number, after_text, keeping, new_record, sign_of, decimal_in, twice, find, taken_whole, taken_pairs, taken_entry, taken_decimal, of_number, of_whole, of_decimal, taken_number, taken_new, of_choice, taken_name, taken_text, taken}
 use Rattle.grammar.specs.Read.{on_piece, read_from}
 use Rattle.grammar.specs.declared.state.Act.{Act}

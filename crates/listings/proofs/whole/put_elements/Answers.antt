@@ -1,5 +1,6 @@
 use Rattle.number.specs.Most.{most_elements}
-use Prim.Native.Nat.{ℕ, ◌-◌, ◌<◌}
+use Prim.Native.Nat.{ℕ, ◌-◌, ◌<◌, ◌≤◌}
+use mathlib.Core.List.{List}
 use mathlib.Core.Path.{◌≡◌, ap}
 use native.Mathlib.Omega.{arith}
 use Rattle.tables.specs.Form.{group_section, tables_in}
@@ -9,20 +10,9 @@ use Rattle.listing.specs.Listing.{columns}
 use Rattle.listing.proofs.ListingLaws.{uptos, upto_left, upto-line}
 use Rattle.listings.proofs.whole.put_elements.Goals as goal
 
--- at an element there is a line left
-ahead : (c : tie.After-elements-of invariant-loop decreases-loop) → c.before.before.loop.i < c.elements-of.result → c.before.before.loop.k < sum_below c.before.before.before.count_of.result (elements (tables_in c.before.before.before.before.before.before.before.before.args.t.now))
-ahead c h =
-    let s = c.before.before.before.before.before.before.before.before.args in
-    upto_left s.x.now s.t.now (columns s.raw.now s.state.now s.first.now s.second.now) c.elements-of.result (omega arith) c.elements-of.ensures h c.before.before.loop.invariant
-
--- and there are few lines
-few : (c : tie.After-elements-of invariant-loop decreases-loop) → c.before.before.loop.i < c.elements-of.result → c.before.before.loop.k < most_elements
-few c l =
-    let s = c.before.before.before.before.before.before.before.before in
-    let h = ahead c l in
-    let n : c.before.before.before.count_of.result ≡ (tables_in s.args.t.now).counts group_section = c.before.before.before.count_of.ensures in
-    let m = s.requires.2 in
-    omega (arith, ap (λ (j : ℕ). sum_below j (elements (tables_in s.args.t.now))) n)
+-- there are few lines
+few : (t : List ℕ) (n k : ℕ) → n ≡ (tables_in t).counts group_section → sum_below ((tables_in t).counts group_section) (elements (tables_in t)) ≤ most_elements → k < sum_below n (elements (tables_in t)) → k < most_elements
+few t n k e m h = omega (arith, ap (λ (j : ℕ). sum_below j (elements (tables_in t))) e)
 
 pub count_of-groups-requires : goal.count_of-groups-requires
 count_of-groups-requires c = search uptos
@@ -40,13 +30,24 @@ pub put_element-p-requires : goal.put_element-p-requires
 put_element-p-requires c = search uptos
 
 pub overflow_add-i : goal.overflow_add-i
-overflow_add-i c = let b = c in let h = few b (omega arith) in omega (arith, b.loop-g.invariant.lines)
+overflow_add-i c =
+    let s = c.args in
+    let a = upto_left s.x.now s.t.now (columns s.raw.now s.state.now s.first.now s.second.now) c.elements_of.result (omega arith) c.elements_of.ensures (omega arith) c.loop-g.invariant in
+    let h = few s.t.now c.count_of-groups.result c.loop-g.k c.count_of-groups.ensures c.requires.2 a in
+    omega (arith, c.loop-g.invariant.lines)
 
 pub overflow_add-k : goal.overflow_add-k
-overflow_add-k c = let h = few c (omega arith) in omega arith
+overflow_add-k c =
+    let s = c.args in
+    let a = upto_left s.x.now s.t.now (columns s.raw.now s.state.now s.first.now s.second.now) c.elements_of.result (omega arith) c.elements_of.ensures (omega arith) c.loop-g.invariant in
+    let h = few s.t.now c.count_of-groups.result c.loop-g.k c.count_of-groups.ensures c.requires.2 a in
+    omega arith
 
 pub loop-g-smaller-then-i-elements_of : goal.loop-g-smaller-then-i-elements_of
-loop-g-smaller-then-i-elements_of c = let h = ahead c (omega arith) in omega arith
+loop-g-smaller-then-i-elements_of c =
+    let s = c.args in
+    let h = upto_left s.x.now s.t.now (columns s.raw.now s.state.now s.first.now s.second.now) c.elements_of.result (omega arith) c.elements_of.ensures (omega arith) c.loop-g.invariant in
+    omega arith
 
 pub loop-g-preserved-then-i-elements_of : goal.loop-g-preserved-then-i-elements_of
 loop-g-preserved-then-i-elements_of c =

@@ -1,5 +1,5 @@
 -- References: "then references in text order (a reference that leads nowhere stops the load)", 7 at the reference's place.
-use Rattle.std.specs.Prelude.{ℕ, zero, suc, ◌+◌, min, List, [], ◌∷◌, Bool, true, false, cond, not, ◌&&◌, ◌||◌, length, get_or, ltb, eqb}
+use Rattle.std.specs.Prelude.{ℕ, zero, suc, ◌+◌, min, List, [], ◌∷◌, Bool, false, cond, ◌&&◌, ◌||◌, length, ltb, eqb}
 use Rattle.text.specs.Answer.{Answer, given, refused}
 use Rattle.text.specs.Bytes.{spells}
 use Rattle.rows.specs.Codes.{AXIS-PTS, MEASUREMENT}

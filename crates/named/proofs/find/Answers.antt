@@ -1,9 +1,9 @@
 use Rattle.text.proofs.LikeLaws.{compare-all, compare-first}
 use Rattle.look.proofs.SearchLaws.{seeks, seek-end, seek-on, seek_found, match-start, match-not, match-on, match-other}
 use native.Mathlib.Omega.{arith}
-use mathlib.Core.Logic.{⊎_elim}
 use Prim.Native.Nat.{◌-◌}
 use Rattle.named.proofs.find.Goals as goal
+use Rattle.named.proofs.find.Goals.{then-is_like+else-k-eq0+then-byte_at-first, then-is_like+else-k-eq0+else-byte_at-first+then-byte_at, else-is_like}
 
 pub count_of-count-requires : goal.count_of-count-requires
 count_of-count-requires c = search seeks
@@ -60,7 +60,15 @@ pub objects-smaller : goal.objects-smaller
 objects-smaller c = search seeks
 
 pub objects-preserved : goal.objects-preserved
-objects-preserved c = seek-on _ _ _ _ _ c.count_of-count.ensures c.objects.invariant c.if-count-i.false _ _ c.slot_of-from.ensures c.slot_of-to.ensures (⊎_elim (λ w. compare-first _ _ _ _ _ _ _ _ w.1.inv (λ z. omega (arith, w.2.left, z)) _ _ w.3.ensures c.byte_at-first.ensures w.4.taken) (⊎_elim (λ w. match-other _ _ _ _ _ _ w.1.inv (λ z. omega (arith, w.2.left, z)) _ _ w.5.ensures w.6.ensures w.7.taken) (λ w. match-not _ _ _ _ _ _ c.one_before.ensures c.byte_at-last.ensures _ c.is_like.ensures w.left)) c.if-is_like.branch)
+objects-preserved c =
+    seek-on _ _ _ _ _ c.count_of-count.ensures c.objects.invariant c.if-count-i.false _ _ c.slot_of-from.ensures c.slot_of-to.ensures
+    (elim c.if-is_like.branch [
+      | then-is_like+else-k-eq0+then-byte_at-first w ↦
+          compare-first _ _ _ _ _ _ _ _ w.loop-k.invariant (λ z. omega (arith, w.if-k-eq0.false, z)) _ _ w.byte_at.ensures c.byte_at-first.ensures w.if-byte_at-first.true
+      | then-is_like+else-k-eq0+else-byte_at-first+then-byte_at w ↦
+          match-other _ _ _ _ _ _ w.loop-k.invariant (λ z. omega (arith, w.if-k-eq0.false, z)) _ _ w.byte_at-in-loop-k.ensures w.byte_at-in-loop-k-2.ensures w.if-byte_at.true
+      | else-is_like w ↦ match-not _ _ _ _ _ _ c.one_before.ensures c.byte_at-last.ensures _ c.is_like.ensures w.if-is_like.false
+    ])
 
 pub returns-then-count-i : goal.returns-then-count-i
 returns-then-count-i c = seek-end _ _ _ _ _ c.count_of-count.ensures c.objects.invariant c.if-count-i.true

@@ -1,5 +1,5 @@
 -- Conversions: "then conversions", 10 at the method's name. Methods that nothing uses are judged too.
-use Rattle.std.specs.Prelude.{ℕ, zero, suc, Bool, true, false, cond, eqb}
+use Rattle.std.specs.Prelude.{ℕ, zero, suc, cond, eqb}
 use Rattle.text.specs.Answer as text
 use Rattle.number.specs.Answer.{Answer, given}
 use Rattle.number.specs.Decimal.{Scaled}

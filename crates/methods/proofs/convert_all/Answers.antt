@@ -1,5 +1,4 @@
 use Rattle.methods.proofs.Laws.{convertings}
-use Prim.Native.Nat.{◌-◌}
 use Rattle.methods.proofs.convert_all.Goals as goal
 
 pub count_of-count-requires : goal.count_of-count-requires

@@ -1,5 +1,5 @@
 -- The layout of an object, by the branches that the code takes.
-use Prim.Native.Nat.{ℕ, suc, ◌-◌, min}
+use Prim.Native.Nat.{ℕ, suc, min}
 use mathlib.Core.Path.{◌≡◌, sym, ◌∙◌, ap}
 use mathlib.Core.List.{List}
 use mathlib.Core.Bool.{Bool}

@@ -11,7 +11,6 @@ use lib.Seq.{set_out}
 use mir.Syntax.{w32}
 use mir.Val.{Fits}
 use Rattle.text.specs.Answer.{Answer, given, refused, with}
-use Rattle.number.specs.Answer as number
 use Rattle.number.specs.Most.{most_objects}
 use Rattle.rows.specs.Sections.{object, axis}
 use Rattle.rows.specs.Slots.{own_name, axis_descr_seen, axis_attribute}

@@ -1,6 +1,6 @@
 -- Each object as a load judges it, by the records that were read: its layout, what it needs, the ground it stands on.
 -- (A number that a record holds is at most what its parameter's type allows; the least of it and that greatest number is the number itself.)
-use Rattle.std.specs.Prelude.{ℕ, ◌+◌, ◌-◌, min, List, Bool, true, false, cond, ◌||◌, eqb, ltb}
+use Rattle.std.specs.Prelude.{ℕ, ◌+◌, ◌-◌, min, List, Bool, true, false, cond, ◌||◌, eqb}
 use Rattle.number.specs.Answer.{Answer, given, refused}
 use Rattle.number.specs.Most.{most_axes}
 use Rattle.cell.specs.Kind.{shape_of, is_type}

@@ -1,5 +1,5 @@
 -- The last stage of a load: ".. in text order, an AXIS_PTS named by COM_AXIS being judged before the object that names it."
-use Rattle.std.specs.Prelude.{ℕ, zero, suc, ◌+◌, ◌≡◌, List, [], ◌∷◌, ◌++◌, Bool, cond, ◌&&◌, eqb, ltb, get_or, set, replicate}
+use Rattle.std.specs.Prelude.{ℕ, zero, suc, ◌≡◌, List, [], ◌∷◌, ◌++◌, Bool, cond, ◌&&◌, eqb, ltb, get_or, set, replicate}
 use Rattle.text.specs.Answer.{Answer, given, refused, with}
 use Rattle.number.specs.Answer as number
 use Rattle.number.specs.Most.{most_objects}

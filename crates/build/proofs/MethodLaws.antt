@@ -9,6 +9,7 @@ use lib.Dec.{eqb, ltb}
 use lib.IntN.{ℤ, pos, negsuc, nat_abs}
 use lib.Signed.{lt_z, mag}
 use mir.Facts.{to_z-of_z}
+use mir.Syntax.{w64}
 use Rattle.cell.proofs.Signed.{back}
 use lib.ListN.{length, replicate}
 use native.Mathlib.Omega.{arith}
@@ -52,7 +53,7 @@ coefficients-are m k b c e f u u₁ u₂ u₃ u₄ p q r s pb pc pe pf =
 
 -- a number that fits is handed on as it is
 pub handed : (z : ℤ) → mag z < 2 ^ 63 → back z ≡ z
-handed z h = to_z-of_z (record { sfits = h })
+handed z h = to_z-of_z {w = w64} (record { sfits = h })
 
 pub some-whole : (a : MethodAnswer) (k : Coefficients) → a ≡ answer.Whole k → k ≡ coefficients_in (told_method a)
 some-whole a k y = rw y

@@ -1,4 +1,3 @@
-use Prim.Native.Nat.{◌-◌}
 use Rattle.objects.proofs.StageLaws.{judgings}
 use Rattle.turns.proofs.judge_each.Goals as goal
 

@@ -1,4 +1,3 @@
-use Prim.Native.Nat.{◌-◌}
 use Rattle.build.proofs.GroupLaws.{groupings}
 use Rattle.built.proofs.group.put_groups.Goals as goal
 

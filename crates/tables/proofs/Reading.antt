@@ -4,7 +4,7 @@
 --     method-below, verbal-below, entries_below     references are below their counts
 --     measurement-forbidden     a MEASUREMENT is marked as not to be written
 --     total-is, total-most      the head says how many elements there are, at most 4,096
-use Prim.Native.Nat.{ℕ, suc, ◌+◌, ◌-◌, ◌*◌, ◌%◌, ◌≤◌, ◌<◌}
+use Prim.Native.Nat.{ℕ, suc, ◌+◌, ◌*◌, ◌%◌, ◌≤◌, ◌<◌}
 use mathlib.Core.Path.{◌≡◌, refl}
 use mathlib.Core.List.{List}
 use mathlib.Core.Bool.{Bool, true, false, cond, ◌&&◌, ◌||◌, false≢true}

@@ -1,5 +1,5 @@
 -- Groups and addressing: the elements of one part of an object, where each stands in the image, and its line in the list.
-use Rattle.std.specs.Prelude.{ℕ, zero, suc, ◌+◌, ◌*◌, ◌-◌, ◌/◌, ◌%◌, ◌^◌, ◌≤◌, ◌<◌, cond, eqb}
+use Rattle.std.specs.Prelude.{ℕ, ◌+◌, ◌*◌, ◌-◌, ◌/◌, ◌%◌, ◌^◌, ◌≤◌, ◌<◌, cond, eqb}
 use Rattle.number.specs.Below.{sum_below}
 use Rattle.cell.specs.Kind.{shape_of}
 use Rattle.tables.specs.Form.{Tables, past_points, kind, place, x, y, wide, high, walk, mask, first}

@@ -1,4 +1,3 @@
-use Prim.Native.Nat.{◌-◌}
 use Rattle.tables.proofs.LoopLaws.{turns}
 use Rattle.rule.proofs.rule.keep_entries.Goals as goal
 

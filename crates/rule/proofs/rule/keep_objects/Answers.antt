@@ -1,4 +1,3 @@
-use Prim.Native.Nat.{◌-◌}
 use Rattle.tables.proofs.LoopLaws.{object-turns}
 use Rattle.rule.proofs.rule.keep_objects.Goals as goal
 

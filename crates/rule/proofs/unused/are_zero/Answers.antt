@@ -1,4 +1,3 @@
-use Prim.Native.Nat.{◌-◌}
 use borrow.Author.Rules.{rules}
 use Rattle.tables.proofs.LoopLaws.{clear-done, clears}
 use Rattle.rule.proofs.unused.are_zero.Goals as goal

@@ -1,4 +1,3 @@
-use Prim.Native.Nat.{◌-◌}
 use borrow.Author.Rules.{rules}
 use Rattle.tables.proofs.LoopLaws.{zeros-stop, zeros-done, zeros}
 use Rattle.rule.proofs.unused.has_zeros.Goals as goal

@@ -1,4 +1,3 @@
-use Prim.Native.Nat.{◌-◌}
 use Rattle.tables.proofs.LoopLaws.{forms}
 use Rattle.rule.proofs.unused.keeps_form.Goals as goal
 

@@ -1,5 +1,5 @@
 -- What each call answers, and what it leaves.
-use Rattle.std.specs.Prelude.{ℕ, zero, suc, ◌+◌, ◌-◌, min, List, Bool, true, false, cond, not, ◌&&◌, ◌||◌, ltb, leb, eqb, ℤ, pos, length, get_or}
+use Rattle.std.specs.Prelude.{ℕ, zero, suc, ◌+◌, ◌-◌, min, List, Bool, true, cond, not, ◌&&◌, ltb, leb, eqb, ℤ, pos, length, get_or}
 use Rattle.number.specs.Answer.{Answer, given, refused}
 use Rattle.number.specs.Below.{any_below}
 use Rattle.cell.specs.Kind.{shape_of}

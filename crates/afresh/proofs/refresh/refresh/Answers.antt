@@ -1,4 +1,3 @@
-use Prim.Native.Nat.{◌-◌}
 use Rattle.afresh.proofs.RefreshLaws.{list-lines}
 use Rattle.afresh.proofs.refresh.refresh.Goals as goal
 

@@ -1,4 +1,3 @@
-use Prim.Native.Nat.{◌-◌}
 use Rattle.afresh.proofs.RefreshLaws.{group_lines}
 use Rattle.afresh.proofs.refresh.refresh_group.Goals as goal
 

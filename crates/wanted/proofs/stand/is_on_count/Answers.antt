@@ -1,5 +1,4 @@
 use Rattle.wanted.proofs.StandLaws.{counts}
-use Prim.Native.Nat.{◌-◌}
 use Rattle.wanted.proofs.stand.is_on_count.Goals as goal
 
 pub count_of-n-requires : goal.count_of-n-requires

@@ -21,7 +21,7 @@ use Rattle.cell.proofs.Laws as cell_laws
 use Rattle.convert.specs.Asked.{asked_raw}
 use Rattle.convert.specs.Edition.{halves_of}
 use Rattle.convert.proofs.Laws.{asked-stores}
-use Rattle.tables.specs.Form.{object_section, group_section, method_section, Tables, tables_in, edition, kind, first, mask, walk, x, y, counter, method_of, limit}
+use Rattle.tables.specs.Form.{group_section, method_section, Tables, tables_in, edition, kind, first, mask, walk, x, y, counter, method_of, limit}
 use Rattle.number.specs.Below.{sum_below}
 use Rattle.tables.specs.Group.{elements, bytes, place_of}
 use Rattle.tables.specs.Rule.{is_no_part, points_rule, counter_rule, axis_rule, values_rule, limits_rule, bytes_rule, role_rule, part_rule, group_rule, keeps_rule}

@@ -31,7 +31,7 @@ use Rattle.tables.proofs.LoopLaws.{sum-on, sum-small}
 use Rattle.tables.proofs.Reading.{total-is, total-most}
 use Rattle.look.specs.Element.{past_records}
 use Rattle.look.proofs.CheckLaws.{checked_refused, checked-tests, checked-passed, group-is}
-use Rattle.look.specs.Calls.{is_element, Kept, kept, lent_of, lent_by, unless, checked, has_room, room}
+use Rattle.look.specs.Calls.{is_element, Kept, kept, lent_of, lent_by, unless, checked, has_room}
 use Rattle.look.specs.Steps.{checked_no}
 use Rattle.print.specs.Print.{slice}
 use Rattle.print.specs.Put.{put, Put}

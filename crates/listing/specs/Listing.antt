@@ -1,5 +1,5 @@
 -- "A whole listing": the header, and a line for each element of the kept list, in the list's order.
-use Rattle.std.specs.Prelude.{ℕ, zero, suc, ◌+◌, ◌/◌, ◌%◌, List, [], ◌++◌, cond, leb, ℤ, pos, length, get_or, drop}
+use Rattle.std.specs.Prelude.{ℕ, zero, suc, ◌+◌, ◌/◌, ◌%◌, List, [], ◌++◌, cond, leb, ℤ, pos, length, get_or}
 use Rattle.number.specs.Answer.{Answer, given, refused}
 use Rattle.tables.specs.Form.{object_section, group_section, tables_in, name_cell, name_past_cell}
 use Rattle.number.specs.Below.{sum_below}

@@ -1,16 +1,15 @@
 -- The whole load, by the branches that the code takes.
-use Prim.Native.Nat.{ℕ, zero, suc, ◌+◌, ◌^◌, ◌≤◌, ◌<◌}
+use Prim.Native.Nat.{ℕ, ◌+◌, ◌^◌, ◌≤◌}
 use mathlib.Core.Path.{◌≡◌, refl, sym, ◌∙◌, ap}
 use mathlib.Core.List.{List}
-use mathlib.Core.Bool.{Bool, true, false, cond, ◌&&◌}
+use mathlib.Core.Bool.{Bool, true, false, ◌&&◌}
 use native.Mathlib.Omega.{arith}
 use borrow.Author.Rules.{rules}
 use borrow.Author.Tests.{leb-true, le-ltb}
-use lib.Dec.{leb, ltb}
+use lib.Dec.{leb}
 use lib.ListN.{length, replicate, length-replicate}
 use Rattle.text.specs.Answer.{Answer, given, refused, with}
 use Rattle.records.specs.Cells.{room, encode}
-use Rattle.records.proofs.Encode.{Good}
 use Rattle.rows.specs.Sections as records
 use Rattle.grammar.specs.Move.{View, view, view_in}
 use Rattle.grammar.specs.Out as reading
@@ -35,7 +34,7 @@ use Rattle.convert.specs.Edition.{is_edition}
 use Rattle.tables.specs.Form.{table_sections}
 use Rattle.tables.specs.declared.setting.Setting.{Setting}
 use Rattle.tables.specs.Sizes.{sizes_fit}
-use Rattle.load.specs.Load.{described, Loaded, left, loaded, loaded_of, judged_last, judged_all, filling, filled, filled_of}
+use Rattle.load.specs.Load.{described, left, loaded, loaded_of, judged_last, judged_all, filling, filled, filled_of}
 use Rattle.load.specs.declared.LoadAnswer.{LoadAnswer}
 use Rattle.load.specs.declared.LoadAnswer.TheVariants as variant
 use Rattle.load.proofs.ReadLaws.{never, read-good, length-read}

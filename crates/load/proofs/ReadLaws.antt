@@ -1,10 +1,10 @@
 -- What a description was read into: records that are good, in cells.
 use Prim.Native.Nat.{ℕ, zero, suc, ◌+◌, ◌≤◌}
-use mathlib.Core.Path.{◌≡◌, refl, sym, ◌∙◌, ap, subst}
+use mathlib.Core.Path.{◌≡◌, sym, ◌∙◌, ap, subst}
 use mathlib.Core.List.{List}
 use native.Mathlib.Omega.{arith}
 use lib.ListN.{length, replicate, length-replicate}
-use Rattle.text.specs.Answer.{Answer, given, refused}
+use Rattle.text.specs.Answer.{given, refused}
 use Rattle.records.specs.Records.{empty, add}
 use Rattle.records.specs.Cells.{room, encode}
 use Rattle.records.proofs.Encode.{Good, none-good, good-add}
@@ -12,7 +12,7 @@ use Rattle.rows.specs.Codes.{FILE}
 use Rattle.rows.specs.Sections.{sections, file}
 use Rattle.grammar.specs.Move.{view, state, items, applied, Move, went, over}
 use Rattle.grammar.specs.Move as step
-use Rattle.grammar.specs.Out.{Out, accepted, read_in}
+use Rattle.grammar.specs.Out.{Out, read_in}
 use Rattle.grammar.specs.Read.{move, following, read_from, start, read}
 use Rattle.grammar.specs.declared.state.State.{State}
 use Rattle.grammar.proofs.Cells.{CellsOf, good-applied, read-encode}

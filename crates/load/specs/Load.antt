@@ -1,5 +1,5 @@
 -- The whole load.
-use Rattle.std.specs.Prelude.{ℕ, List, Bool, cond, ◌&&◌, length, replicate, leb}
+use Rattle.std.specs.Prelude.{ℕ, List, cond, ◌&&◌, length, replicate, leb}
 use Rattle.text.specs.Answer.{Answer, given, refused, with}
 use Rattle.records.specs.Cells.{room, encode}
 use Rattle.rows.specs.Sections as records

@@ -15,7 +15,7 @@ use Rattle.facts.proofs.Keeps.{read_keeps}
 use Rattle.objects.specs.Object.{layout_of, need_of, places_of}
 use Rattle.convert.specs.Edition.{is_edition}
 use Rattle.tables.specs.declared.setting.Setting.{Setting}
-use Rattle.tables.specs.Form.{table_sections, group_section, Tables, tables_of, tables_in, kind, x, y}
+use Rattle.tables.specs.Form.{table_sections, group_section, Tables, tables_of, tables_in}
 use Rattle.tables.specs.Group.{group_of, elements, bytes, place_of}
 use Rattle.tables.proofs.Cells.{tables-encode}
 use Rattle.tables.proofs.Reading.{element-inside}

@@ -15,7 +15,7 @@ use Rattle.text.proofs.Within.{by-test, and_left, and_right}
 use Rattle.number.specs.Answer as number
 use Rattle.number.specs.Form.{is_given}
 use Rattle.number.specs.Most.{most_objects, most_elements}
-use Rattle.records.specs.Records.{count, slot}
+use Rattle.records.specs.Records.{count}
 use Rattle.rows.specs.Sections.{method, object, axis}
 use Rattle.rows.specs.Slots.{own_name}
 use Rattle.grammar.specs.Move.{View, view}

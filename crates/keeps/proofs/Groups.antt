@@ -1,5 +1,5 @@
 -- The three groups of each object of the tables that are built keep the table rule, and have as many elements as the object.
-use Prim.Native.Nat.{ℕ, zero, suc, ◌+◌, ◌-◌, ◌*◌, ◌%◌, ◌≤◌, ◌<◌}
+use Prim.Native.Nat.{ℕ, ◌+◌, ◌-◌, ◌*◌, ◌%◌, ◌≤◌, ◌<◌}
 use mathlib.Core.Path.{◌≡◌, refl, sym, ◌∙◌, ap}
 use mathlib.Core.List.{List}
 use mathlib.Core.Bool.{Bool, true, false, cond, not, ◌&&◌, ◌||◌, false≢true}
@@ -13,7 +13,7 @@ use Rattle.number.specs.Decimal.{Scaled}
 use Rattle.text.specs.Bytes.{spells}
 use Rattle.text.proofs.Within.{and_left, and_right, by-test}
 use Rattle.number.specs.Most.{most_elements, most_points}
-use Rattle.cell.specs.Kind.{shape_of, shapes, is_type}
+use Rattle.cell.specs.Kind.{shape_of, is_type}
 use Rattle.cell.specs.Mask.{mask_rule}
 use Rattle.convert.specs.Limit.{at_most}
 use Rattle.records.specs.Records.{count, slot}

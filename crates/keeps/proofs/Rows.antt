@@ -11,14 +11,14 @@ use lib.IntN.{ℤ, pos, negsuc, neg_ℤ, nat_abs}
 use lib.ListN.{length, get_or, replicate}
 use Rattle.text.specs.Answer as text
 use Rattle.text.proofs.Within.{and_left, and_right, by-test}
-use Rattle.number.specs.Answer.{Answer, given, refused}
+use Rattle.number.specs.Answer.{Answer}
 use Rattle.number.specs.Decimal.{Scaled}
 use Rattle.number.specs.Form.{is_given}
 use Rattle.number.specs.Signed.{signed_of}
 use Rattle.convert.specs.Whole.{eq_z, small, all_small}
 use Rattle.convert.specs.Limit.{formed}
 use Rattle.convert.proofs.Limits.{formed-facts}
-use Rattle.convert.specs.Method.{same_products, sound_method, judged_method, rat_func_at, rat_func, linear_at, linear_of, identical_of}
+use Rattle.convert.specs.Method.{same_products, sound_method, judged_method, rat_func, linear_at, linear_of, identical_of}
 use Rattle.convert.specs.declared.method.Coefficients.{Coefficients}
 use Rattle.records.specs.Records.{count, slot}
 use Rattle.rows.specs.Codes.{LINEAR, RAT-FUNC, TAB-VERB}

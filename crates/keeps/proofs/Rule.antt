@@ -22,7 +22,6 @@ use Rattle.refer.specs.Refer.{referred}
 use Rattle.methods.specs.Methods.{converts}
 use Rattle.place.specs.Judge as place
 use Rattle.objects.specs.Object.{elements_of}
-use Rattle.objects.specs.Stage as objects
 use Rattle.objects.specs.Stage.{judge_all}
 use Rattle.objects.proofs.Shares.{share}
 use Rattle.objects.proofs.Each.{Stands, judge-all-each}
@@ -33,7 +32,7 @@ use Rattle.tree.specs.Points.{Pointed}
 use Rattle.tree.proofs.Points.{read-pointed}
 use Rattle.convert.specs.Edition.{is_edition}
 use Rattle.tables.specs.declared.setting.Setting.{Setting}
-use Rattle.tables.specs.Form.{table_sections, head_section, object_section, group_section, method_section, table_section, entry_section, Tables, tables_of, total}
+use Rattle.tables.specs.Form.{table_sections, head_section, object_section, group_section, Tables, tables_of, total}
 use Rattle.number.specs.Below.{sum_below, all_below}
 use Rattle.tables.specs.Group.{elements}
 use Rattle.tables.specs.Rule.{object_rule, group_rule, method_rule, table_rule, entry_rule, head_rule, ruled, keeps_rule}

@@ -1,6 +1,6 @@
 -- What a load accepts: the text is read, and then each rule holds of every record, with no word of the order in which a load judges them
 -- (proofs/Exactly.antt). Which texts are read, the crate `tree` says.
-use Rattle.std.specs.Prelude.{ℕ, ◌+◌, ◌≤◌, ◌<◌, ◌≡◌, List, [], ◌∷◌, true, ◌⊎◌}
+use Rattle.std.specs.Prelude.{ℕ, ◌+◌, ◌≤◌, ◌<◌, ◌≡◌, List, true}
 use Rattle.text.specs.Answer.{given}
 use Rattle.number.specs.Form.{is_given}
 use Rattle.number.specs.Most.{most_elements}

@@ -66,6 +66,7 @@ module _ (x t : List ℕ) (l : Lent) (w : List ℕ) where
       go : OneOf (20 ∷ 22 ∷ []) n → find_back (find_number (refused n)) ≡ refused n
       go (inl e) = rw e
       go (inr (inl e)) = rw e
+      go (inr (inr h)) = absurd h
 
   pub find-number-back : find_back (find_number (searched x t l w)) ≡ searched x t l w
   find-number-back = find-back (searched x t l w) (searched-numbers x t l w)

@@ -1,5 +1,5 @@
 -- How the C functions tell an answer as a number, in the words of include/obarsivel.h, and what the lent buffers hold after a call.
-use Rattle.std.specs.Prelude.{ℕ, zero, suc, ◌+◌, ◌*◌, ◌%◌, ◌^◌, List, [], ◌∷◌, ◌++◌, false, ◌&&◌, leb, Float, ℤ, pos, negsuc, neg_ℤ, length, drop}
+use Rattle.std.specs.Prelude.{ℕ, zero, suc, ◌+◌, ◌*◌, ◌%◌, ◌^◌, List, [], ◌∷◌, false, ◌&&◌, leb, Float, ℤ, pos, negsuc, neg_ℤ, length}
 use Rattle.std.specs.Float.{fin}
 use Rattle.text.specs.Answer as placed
 use Rattle.number.specs.Answer.{Answer, given, refused}

@@ -65,6 +65,7 @@ Apart ps = (r q : Part) → Among r ps → Among q ps → r.entry.present ≡ tr
 
 from-apart : (e : Entry) (ps : List Part) → apart_from e (entries ps) ≡ true → (q : Part) → Among q ps → apart e q.entry ≡ true
 unfolding apart_from
+from-apart e [] h q m = elim m [ ]
 from-apart e (p ∷ ps) h q (inl d) = rw d (and_left (apart e p.entry) (apart_from e (entries ps)) h)
 from-apart e (p ∷ ps) h q (inr m) = from-apart e ps (and_right (apart e p.entry) (apart_from e (entries ps)) h) q m
 
@@ -75,6 +76,7 @@ apart_from_lem e (p ∷ ps) k = and (k p (inl refl)) (apart_from_lem e ps (λ q 
 
 all_apart_lem : (ps : List Part) → all_apart (entries ps) ≡ true → Apart ps
 unfolding all_apart
+all_apart_lem [] h r q m m' f f' e = elim m [ ]
 all_apart_lem (p ∷ ps) h r q (inl d) (inl d') f f' e = rw (d, d')
 all_apart_lem (p ∷ ps) h r q (inl d) (inr m) f f' e =
     absurd ((apart-means r.entry q.entry).0 (rw d (from-apart p.entry ps (and_left (apart_from p.entry (entries ps)) (all_apart (entries ps)) h) q m)) f f' e)

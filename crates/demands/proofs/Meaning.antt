@@ -1,6 +1,6 @@
 -- THE SECOND DEMAND: "its physical value is the exact fraction or text, or none", and "a physical write stores the whole number nearest to what the
 -- conversion asks, by the edition's rule on halves, or is refused".
-use Prim.Native.Nat.{ℕ, zero, suc, ◌-◌, ◌*◌, ◌%◌, ◌^◌, ◌<◌}
+use Prim.Native.Nat.{ℕ, zero, suc, ◌-◌, ◌%◌, ◌^◌, ◌<◌}
 use mathlib.Core.Path.{◌≡◌, refl, sym, ap, ◌∙◌, subst}
 use mathlib.Core.List.{List}
 use mathlib.Core.Bool.{Bool, true, false, cond, not, ◌&&◌}

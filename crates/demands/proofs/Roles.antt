@@ -92,6 +92,7 @@ rising [] = true
 rising (p ∷ ps) = above (nth p.role) ps && rising ps
 
 above_other : (r : Part) (ps : List Part) → above (nth r.role) ps ≡ true → Other r ps
+above_other r [] h q m d = elim m [ ]
 above_other r (p ∷ ps) h q (inl e) d =
     let u = ltb-true (nth r.role) (nth p.role) (and_left (ltb (nth r.role) (nth p.role)) (above (nth r.role) ps) h) in
     omega (arith, ap nth d, ap (λ (z : Part). nth z.role) e)

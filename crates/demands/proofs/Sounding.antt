@@ -13,7 +13,7 @@ use Rattle.number.specs.Decimal.{Scaled, Form}
 use Rattle.number.specs.Form.{is_given}
 use Rattle.convert.specs.Limit.{formed}
 use Rattle.convert.specs.Method.{identical_of, same_products, sound_method, judged_method, rat_func, linear_of}
-use Rattle.convert.specs.Whole.{eq_z, small, all_small, Small}
+use Rattle.convert.specs.Whole.{eq_z, all_small, Small}
 use Rattle.convert.specs.declared.method.Coefficients.{Coefficients}
 use Rattle.convert.proofs.Limits.{formed-facts}
 use Rattle.convert.proofs.Wholes.{small-facts}

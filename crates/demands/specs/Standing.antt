@@ -1,5 +1,5 @@
 -- What the tables hold of a part of an object, by the records of its description: all that a call asks of it.
-use Rattle.std.specs.Prelude.{ℕ, ◌+◌, ◌-◌, ◌*◌, ◌≡◌, List, Bool, false, not, ◌||◌, eqb}
+use Rattle.std.specs.Prelude.{ℕ, ◌+◌, ◌*◌, ◌≡◌, List, Bool, false, not, ◌||◌, eqb}
 use Rattle.number.specs.Decimal.{Scaled}
 use Rattle.cell.specs.Kind.{shape_of}
 use Rattle.rows.specs.Codes.{MEASUREMENT}

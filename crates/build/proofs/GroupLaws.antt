@@ -27,7 +27,7 @@ use Rattle.build.specs.declared.part.Spot.{Spot}
 use Rattle.build.proofs.RowLaws.{length-rows, rows_on}
 
 -- o is what `basis_of` gave
-pub known_is : (image : List ℕ) (base : ℕ) (x : List ℕ) (v : View) (i : ℕ) (n : Need) (o : Basis) (p : Places) (f : Bool) → n ≡ need_of image base x v i → o ≡ basis_of x v base i → p ≡ places_in (placement o.ground n image o.layout) → f ≡ first_of v i
+pub known_is : (image : List ℕ) (base : ℕ) (x : List ℕ) (v : View) (i : ℕ) (n : Need) (o : Basis) (p : Places) (f : Bool) → n ≡ need_of image base x v i → o ≡ basis_of x v base i → p ≡ places_in (placement o.footing n image o.layout) → f ≡ first_of v i
     → ◌≡◌ {A = Known} (record { need = n; layout = o.layout; places = p; first = f; number = o.number }) (known_of image base x v i)
 unfolding known_of
 known_is image base x v i n o p f a b c d = let e : p ≡ places_of image base x v i = c ∙ places-are image base x v i o n b a in rw (a, b, e, d)

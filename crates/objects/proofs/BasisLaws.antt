@@ -19,11 +19,11 @@ module _ (x : List ℕ) (v : View) (base i n : ℕ) (g : Ground) (c : ℕ) (pn :
   unfolding ground_of
   ground = pg ∙ rw pn
 
-  pub basis-measured : c ≡ 10 → (k : ℕ) (l : Layout) → k ≡ v.slots object i object_type → l ≡ measured k → ◌≡◌ {A = Basis} (record { number = n; layout = l; ground = g }) (basis_of x v base i)
+  pub basis-measured : c ≡ 10 → (k : ℕ) (l : Layout) → k ≡ v.slots object i object_type → l ≡ measured k → ◌≡◌ {A = Basis} (record { number = n; layout = l; footing = g }) (basis_of x v base i)
   unfolding layout_of
   basis-measured h k l pk pl = rw (pn, ground, ← p, eq-eqb c 10 h, pl, pk)
 
-  pub basis-own : (c ≡ 10 → ⊥) → (l : Layout) → l ≡ layout_at v n → ◌≡◌ {A = Basis} (record { number = n; layout = l; ground = g }) (basis_of x v base i)
+  pub basis-own : (c ≡ 10 → ⊥) → (l : Layout) → l ≡ layout_at v n → ◌≡◌ {A = Basis} (record { number = n; layout = l; footing = g }) (basis_of x v base i)
   unfolding layout_of
   basis-own h l pl = rw (pl, pn, ground, ← p, ne_eqb c 10 h)
 

@@ -38,7 +38,7 @@ pub ruleset numbers = (value-is, axis-pts-is, block-is, shared-is)
 
 module _ (image : List ℕ) (base : ℕ) (x : List ℕ) (v : View) where
   -- o is what `basis_of` gave, q what `place_parts` gave
-  module _ (s : ℕ) (o : Basis) (n : Need) (q : Placed) (po : o ≡ basis_of x v base s) (pn : n ≡ axis_pts_need v s) (pq : told_placed q ≡ placement o.ground n image o.layout) where
+  module _ (s : ℕ) (o : Basis) (n : Need) (q : Placed) (po : o ≡ basis_of x v base s) (pn : n ≡ axis_pts_need v s) (pq : told_placed q ≡ placement o.footing n image o.layout) where
     points-are : points_in (told_placed q) ≡ shared_points image base x v s
     unfolding shared_points
     points-are = rw (pq, po, pn)

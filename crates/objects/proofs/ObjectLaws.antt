@@ -39,7 +39,7 @@ module _ (image : List ℕ) (base : ℕ) (x : List ℕ) (v : View) (i used : ℕ
   unfolding judge_object
   judge-masked h = rw (← fits, h)
 
-  pub judge-is : b ≡ true → (n : Need) (r : Judged) → n ≡ need_of image base x v i → told_judged r ≡ judged_object image o.ground n o.layout used → told_judged r ≡ judge_object image base x v i used
+  pub judge-is : b ≡ true → (n : Need) (r : Judged) → n ≡ need_of image base x v i → told_judged r ≡ judged_object image o.footing n o.layout used → told_judged r ≡ judge_object image base x v i used
   unfolding judge_object
   judge-is h n r pn pr = rw (← fits, h, pr, pn, po)
 
@@ -52,7 +52,7 @@ module _ (image : List ℕ) (g : Ground) (n : Need) (l : Layout) (q : Placed) (p
   places-none k s y e = e ∙ sym (ap (λ (z : Placed). places_in (told_placed z)) y) ∙ ap places_in pq
 
 -- by what object i rests on and what it needs
-pub places-are : (image : List ℕ) (base : ℕ) (x : List ℕ) (v : View) (i : ℕ) (o : Basis) (n : Need) → o ≡ basis_of x v base i → n ≡ need_of image base x v i → places_in (placement o.ground n image o.layout) ≡ places_of image base x v i
+pub places-are : (image : List ℕ) (base : ℕ) (x : List ℕ) (v : View) (i : ℕ) (o : Basis) (n : Need) → o ≡ basis_of x v base i → n ≡ need_of image base x v i → places_in (placement o.footing n image o.layout) ≡ places_of image base x v i
 unfolding places_of
 places-are image base x v i o n po pn = rw (po, pn)
 

@@ -84,7 +84,7 @@ ground_of x v base i =
 
 -- what object i rests on
 abbrev pub basis_of : List ℕ → View → ℕ → ℕ → Basis
-basis_of x v base i = record { number = layout_number x v i; layout = layout_of x v i; ground = ground_of x v base i }
+basis_of x v base i = record { number = layout_number x v i; layout = layout_of x v i; footing = ground_of x v base i }
 
 -- ---- the need
 

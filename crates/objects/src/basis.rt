@@ -19,7 +19,7 @@ use words::codes::MEASUREMENT;
 pub struct Basis {
     pub number: u16,
     pub layout: Layout,
-    pub ground: Ground,
+    pub footing: Ground,
 }
 
 // The greatest address.
@@ -46,19 +46,19 @@ pub fn basis_of(x: &[u8], t: &[u64], base: u32, i: u16) -> Basis
     ensures { result ≡ basis_of x.now (view_in t.now) base i }
 {
     let number = layout_number(x, t, i);
-    let ground = ground_by(t, base, i, number);
+    let footing = ground_by(t, base, i, number);
     if slot_of(t, OBJECT, i, BLOCK_CODE) == (MEASUREMENT as u64) {
         let layout = measured(slot_of(t, OBJECT, i, OBJECT_TYPE));
         return Basis {
             number,
             layout,
-            ground,
+            footing,
         };
     }
     let layout = layout_at(t, number);
     Basis {
         number,
         layout,
-        ground,
+        footing,
     }
 }

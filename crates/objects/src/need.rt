@@ -95,7 +95,7 @@ fn shared_points(image: &[u8], base: u32, x: &[u8], t: &[u64], s: u16) -> u16
 {
     let b = basis_of(x, t, base, s);
     let n = axis_pts_need(t, s);
-    match place_parts(image, b.ground, n, b.layout) {
+    match place_parts(image, b.footing, n, b.layout) {
         Placed::At(r) => {
             let p = r.places;
             p.cx

@@ -39,7 +39,7 @@ pub fn judge_one(image: &[u8], base: u32, x: &[u8], t: &[u64], i: u16, used: u32
     let v = l.values;
     if mask_fits(t, i, v.kind) {
         let n = need_of(image, base, x, t, i);
-        return judge_object(image, b.ground, n, l, used);
+        return judge_object(image, b.footing, n, l, used);
     }
     Judged::Refused { no: BREAKS_PLACE }
 }
@@ -61,9 +61,9 @@ fn no_places() -> Places
 
 // Where the parts of an object stand, by what it rests on and what it needs.
 pub fn places_by(image: &[u8], b: Basis, n: Need) -> Places
-    ensures { result ≡ places_in (placement b.ground n image.now b.layout) }
+    ensures { result ≡ places_in (placement b.footing n image.now b.layout) }
 {
-    match place_parts(image, b.ground, n, b.layout) {
+    match place_parts(image, b.footing, n, b.layout) {
         Placed::At(r) => r.places,
         Placed::Refused { no: _ } => no_places(),
     }

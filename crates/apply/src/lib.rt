@@ -2,7 +2,7 @@
 #![tactic(auto)]
 
 use console::arguments::REQUESTS;
-use console::ending::{Ending, complain, complain_number, say, say_number};
+use console::ending::{Ending, Errors, complain, complain_number, say, say_number};
 use console::message::{error_about, refused, refused_size};
 use console::sizes::{LINES, TEXT_BYTES, TEXT_ROOM, front};
 use files::file::{FileRead, read_file};
@@ -14,6 +14,10 @@ use printing::lines::print_listing;
 use requests::requested::{
     ElementTyped, NO_FIELDS, NO_WAY, SAID, Way, complain_of, element_named, way_of, write_one,
 };
+use std::io;
+use std::os::fd::AsFd;
+use std::random::RandomSource;
+use std::rt::{Env, Files};
 
 // How many fields a request has, and which they are.
 const FIELDS: usize = 5;
@@ -60,12 +64,39 @@ fn between(s: &[u8], a: usize, e: usize) -> &[u8] {
     &s[..0]
 }
 
+// The request to an element that is written in a way.
+fn request_to(object: u32, part: u8, index: u32, way: Way) -> Request {
+    match way {
+        Way::Raw => Request::To {
+            object,
+            part,
+            index,
+            is_raw: true,
+        },
+        Way::Physical => Request::To {
+            object,
+            part,
+            index,
+            is_raw: false,
+        },
+        Way::Neither => Request::Wrong { why: NO_WAY },
+    }
+}
+
 // The request of one line.
-fn request_in(line: &[u8], x: &[u8], image: &[u8], base: u32, t: &[u64]) -> Request {
+fn request_in(
+    rt: &impl Print,
+    line: &[u8],
+    x: &[u8],
+    image: &[u8],
+    base: u32,
+    t: &[u64],
+) -> io::Result<Request> {
     if field_count(line) != FIELDS {
-        return Request::Wrong { why: NO_FIELDS };
+        return Ok(Request::Wrong { why: NO_FIELDS });
     }
     match element_named(
+        rt,
         x,
         image,
         base,
@@ -73,79 +104,87 @@ fn request_in(line: &[u8], x: &[u8], image: &[u8], base: u32, t: &[u64]) -> Requ
         field_of(line, NAME),
         field_of(line, PART),
         field_of(line, INDEX),
-    ) {
+    )? {
         ElementTyped::At {
             object,
             part,
             index,
-        } => match way_of(field_of(line, WAY)) {
-            Way::Raw => Request::To {
-                object,
-                part,
-                index,
-                is_raw: true,
-            },
-            Way::Physical => Request::To {
-                object,
-                part,
-                index,
-                is_raw: false,
-            },
-            Way::Neither => Request::Wrong { why: NO_WAY },
-        },
-        ElementTyped::Wrong { why } => Request::Wrong { why },
+        } => Ok(request_to(object, part, index, way_of(field_of(line, WAY)))),
+        ElementTyped::Wrong { why } => Ok(Request::Wrong { why }),
+    }
+}
+
+// Says what is wrong with line n, where it was not said already.
+fn complain_of_line(rt: &impl Errors, line: &[u8], n: usize, why: u8) {
+    if why != SAID {
+        complain(rt, b"error: line ");
+        complain_number(rt, n as u64);
+        complain(rt, b" of the requests: ");
+        complain_of(
+            rt,
+            why,
+            field_of(line, NAME),
+            field_of(line, INDEX),
+            field_of(line, WAY),
+        );
     }
 }
 
 // Whether line n is a request; what is wrong with it is said.
-fn is_request(line: &[u8], n: usize, x: &[u8], image: &[u8], base: u32, t: &[u64]) -> bool {
-    match request_in(line, x, image, base, t) {
+fn is_request(
+    rt: &(impl Print + Errors),
+    line: &[u8],
+    n: usize,
+    x: &[u8],
+    image: &[u8],
+    base: u32,
+    t: &[u64],
+) -> io::Result<bool> {
+    match request_in(rt, line, x, image, base, t)? {
         Request::To {
             object: _,
             part: _,
             index: _,
             is_raw: _,
-        } => true,
+        } => Ok(true),
         Request::Wrong { why } => {
-            if why != SAID {
-                complain(b"error: line ");
-                complain_number(n as u64);
-                complain(b" of the requests: ");
-                complain_of(
-                    why,
-                    field_of(line, NAME),
-                    field_of(line, INDEX),
-                    field_of(line, WAY),
-                );
-            }
-            false
+            complain_of_line(rt, line, n, why);
+            Ok(false)
         }
     }
 }
 
 // Whether every line is a request.
-fn are_requests(q: &[u8], x: &[u8], image: &[u8], base: u32, t: &[u64]) -> bool {
+fn are_requests(
+    rt: &(impl Print + Errors),
+    q: &[u8],
+    x: &[u8],
+    image: &[u8],
+    base: u32,
+    t: &[u64],
+) -> io::Result<bool> {
     let mut from: usize = 0;
     let mut n: usize = 1;
     while from < q.len() {
         let end = line_end(q, from);
         if end < from {
-            return false;
+            return Ok(false);
         }
-        if !is_request(between(q, from, end), n, x, image, base, t) {
-            return false;
+        if !is_request(rt, between(q, from, end), n, x, image, base, t)? {
+            return Ok(false);
         }
         if q.len() <= end {
-            return true;
+            return Ok(true);
         }
         from = end + 1;
         n = n + 1;
     }
-    true
+    Ok(true)
 }
 
 // Carries out the request of one line: its answer's number.
 fn answer_to(
+    rt: &impl Print,
     line: &[u8],
     x: &[u8],
     image: &mut [u8],
@@ -155,8 +194,8 @@ fn answer_to(
     state: &mut [u8],
     first: &mut [i64],
     second: &mut [i64],
-) -> u8 {
-    match request_in(line, x, image, base, t) {
+) -> io::Result<u8> {
+    match request_in(rt, line, x, image, base, t)? {
         Request::To {
             object,
             part,
@@ -178,11 +217,11 @@ fn answer_to(
                 is_raw,
                 field_of(line, VALUE),
             ) {
-                CallAnswer::Done => DONE,
-                CallAnswer::Refused { no } => no,
+                CallAnswer::Done => Ok(DONE),
+                CallAnswer::Refused { no } => Ok(no),
             }
         }
-        Request::Wrong { why: _ } => NO_REQUEST,
+        Request::Wrong { why: _ } => Ok(NO_REQUEST),
     }
 }
 
@@ -195,6 +234,7 @@ fn note(answers: &mut [u8], n: usize, no: u8) {
 
 // Carries out the requests in turn, notes their answers, and answers how many there were.
 fn apply_all(
+    rt: &impl Print,
     q: &[u8],
     x: &[u8],
     image: &mut [u8],
@@ -205,15 +245,16 @@ fn apply_all(
     first: &mut [i64],
     second: &mut [i64],
     answers: &mut [u8],
-) -> usize {
+) -> io::Result<usize> {
     let mut from: usize = 0;
     let mut n: usize = 0;
     while from < q.len() {
         let end = line_end(q, from);
         if end < from {
-            return n;
+            return Ok(n);
         }
         let no = answer_to(
+            rt,
             between(q, from, end),
             x,
             image,
@@ -223,15 +264,15 @@ fn apply_all(
             state,
             first,
             second,
-        );
+        )?;
         note(answers, n, no);
         n = n + 1;
         if q.len() <= end {
-            return n;
+            return Ok(n);
         }
         from = end + 1;
     }
-    n
+    Ok(n)
 }
 
 // Whether one of the answers is that a write is done.
@@ -252,27 +293,26 @@ fn is_refusal(no: u8) -> bool {
 }
 
 // Writes one answer.
-fn print_answer(no: u8) {
+fn print_answer(rt: &impl Print, no: u8) -> io::Result<()> {
     if no == DONE {
-        say(b"ok\n");
-        return;
+        return say(rt, b"ok\n");
     }
     if is_refusal(no) {
-        say(b"refused ");
-        say_number(no as u64);
-        say(b"\n");
-        return;
+        say(rt, b"refused ")?;
+        say_number(rt, no as u64)?;
+        return say(rt, b"\n");
     }
-    say(b"not carried out\n");
+    say(rt, b"not carried out\n")
 }
 
 // Writes the answers, a line each.
-fn print_answers(answers: &[u8]) {
+fn print_answers(rt: &impl Print, answers: &[u8]) -> io::Result<()> {
     let mut i: usize = 0;
     while i < answers.len() {
-        print_answer(answers[i]);
+        print_answer(rt, answers[i])?;
         i += 1;
     }
+    Ok(())
 }
 
 // How the answers let the program end: refused where a write is, failed where a line was not carried out.
@@ -293,9 +333,13 @@ fn ending_of(answers: &[u8]) -> Ending {
 }
 
 // Whether the image's file holds what the answers say: replaced where a write is done, left where none is.
-fn is_settled(answers: &[u8], image: &[u8]) -> bool {
+fn is_settled<R>(rt: &R, answers: &[u8], image: &[u8]) -> bool
+where
+    R: Errors + Env + Files + RandomSource + AllocGlobal,
+    R::File: AsFd,
+{
     if has_done(answers) {
-        return is_kept(image);
+        return is_kept(rt, image);
     }
     true
 }
@@ -310,7 +354,8 @@ fn ending_after(listed: Ending, answers: &[u8]) -> Ending {
 }
 
 // Settles the image's file, and writes the answers and the listing.
-fn print_kept(
+fn print_kept<R>(
+    rt: &R,
     x: &[u8],
     image: &[u8],
     base: u32,
@@ -320,19 +365,22 @@ fn print_kept(
     first: &[i64],
     second: &[i64],
     answers: &[u8],
-) -> Ending {
-    if is_settled(answers, image) {
-        print_answers(answers);
-        return ending_after(
-            print_listing(x, image, base, t, raw, state, first, second),
-            answers,
-        );
+) -> io::Result<Ending>
+where
+    R: Print + Errors + Env + Files + RandomSource + AllocGlobal,
+    R::File: AsFd,
+{
+    if !is_settled(rt, answers, image) {
+        return Ok(Ending::Failed);
     }
-    Ending::Failed
+    print_answers(rt, answers)?;
+    let listed = print_listing(rt, x, image, base, t, raw, state, first, second)?;
+    Ok(ending_after(listed, answers))
 }
 
 // Carries out the requests on the kept list, and goes on with their answers.
-fn apply_kept(
+fn apply_kept<R>(
+    rt: &R,
     q: &[u8],
     x: &[u8],
     image: &mut [u8],
@@ -342,9 +390,14 @@ fn apply_kept(
     state: &mut [u8],
     first: &mut [i64],
     second: &mut [i64],
-) -> Ending {
+) -> io::Result<Ending>
+where
+    R: Print + Errors + Env + Files + RandomSource + AllocGlobal,
+    R::File: AsFd,
+{
     let mut answers = [NO_REQUEST; ANSWERS];
     let n = apply_all(
+        rt,
         q,
         x,
         image,
@@ -355,11 +408,16 @@ fn apply_kept(
         first,
         second,
         &mut answers,
-    );
+    )?;
     if ANSWERS < n {
-        return error_about(b"there are more requests than answers can be kept of", b"");
+        return Ok(error_about(
+            rt,
+            b"there are more requests than answers can be kept of",
+            b"",
+        ));
     }
     print_kept(
+        rt,
         x,
         image,
         base,
@@ -373,7 +431,18 @@ fn apply_kept(
 }
 
 // Makes the list that is kept over the requests, which are all well formed.
-fn apply_requests(q: &[u8], x: &[u8], image: &mut [u8], base: u32, t: &[u64]) -> Ending {
+fn apply_requests<R>(
+    rt: &R,
+    q: &[u8],
+    x: &[u8],
+    image: &mut [u8],
+    base: u32,
+    t: &[u64],
+) -> io::Result<Ending>
+where
+    R: Print + Errors + Env + Files + RandomSource + AllocGlobal,
+    R::File: AsFd,
+{
     let mut raw = [0i64; LINES];
     let mut state = [0u8; LINES];
     let mut first = [0i64; LINES];
@@ -389,6 +458,7 @@ fn apply_requests(q: &[u8], x: &[u8], image: &mut [u8], base: u32, t: &[u64]) ->
         &mut second,
     ) {
         CallAnswer::Done => apply_kept(
+            rt,
             q,
             x,
             image,
@@ -399,23 +469,27 @@ fn apply_requests(q: &[u8], x: &[u8], image: &mut [u8], base: u32, t: &[u64]) ->
             &mut first,
             &mut second,
         ),
-        CallAnswer::Refused { no } => refused(no),
+        CallAnswer::Refused { no } => refused(rt, no),
     }
 }
 
 // Reads the request file and carries it out; where a line is no request nothing at all is written.
-pub fn apply(x: &[u8], image: &mut [u8], base: u32, t: &[u64]) -> Ending {
+pub fn apply<R>(rt: &R, x: &[u8], image: &mut [u8], base: u32, t: &[u64]) -> io::Result<Ending>
+where
+    R: Print + Errors + Env + Files + RandomSource + AllocGlobal,
+    R::File: AsFd,
+{
     let mut buffer = [0u8; TEXT_ROOM];
-    match read_file(REQUESTS, &mut buffer) {
+    match read_file(rt, REQUESTS, &mut buffer) {
         FileRead::Bytes(n) => {
             if TEXT_BYTES < n {
-                return refused_size(b"the request file", TEXT_BYTES);
+                return refused_size(rt, b"the request file", TEXT_BYTES);
             }
-            if are_requests(front(&buffer, n), x, image, base, t) {
-                return apply_requests(front(&buffer, n), x, image, base, t);
+            if are_requests(rt, front(&buffer, n), x, image, base, t)? {
+                return apply_requests(rt, front(&buffer, n), x, image, base, t);
             }
-            Ending::Failed
+            Ok(Ending::Failed)
         }
-        FileRead::Nothing => Ending::Failed,
+        FileRead::Nothing => Ok(Ending::Failed),
     }
 }

@@ -5,9 +5,10 @@ use console::sizes::LINES;
 use list::make::make_list;
 use look::call::CallAnswer;
 use printing::lines::print_listing;
+use std::io;
 
 // Lists an image.
-pub fn list(x: &[u8], image: &[u8], base: u32, t: &[u64]) -> Ending {
+pub fn list(rt: &impl Print, x: &[u8], image: &[u8], base: u32, t: &[u64]) -> io::Result<Ending> {
     let mut raw = [0i64; LINES];
     let mut state = [0u8; LINES];
     let mut first = [0i64; LINES];
@@ -22,7 +23,7 @@ pub fn list(x: &[u8], image: &[u8], base: u32, t: &[u64]) -> Ending {
         &mut first,
         &mut second,
     ) {
-        CallAnswer::Done => print_listing(x, image, base, t, &raw, &state, &first, &second),
-        CallAnswer::Refused { no } => refused(no),
+        CallAnswer::Done => print_listing(rt, x, image, base, t, &raw, &state, &first, &second),
+        CallAnswer::Refused { no } => refused(rt, no),
     }
 }

@@ -1,7 +1,7 @@
 // The command `set`: one write.
 use console::arguments::{INDEX, NAME, PART, VALUE, WAY};
 use console::called::word_at;
-use console::ending::Ending;
+use console::ending::{Ending, Errors};
 use console::message::refused;
 use console::sizes::{LINES, WORD_ROOM, front};
 use files::replace::is_kept;
@@ -11,9 +11,14 @@ use look::check::group_of;
 use printing::lines::print_afresh;
 use requests::limits::refused_write;
 use requests::requested::{ElementTyped, NO_WAY, Way, element_named, error_of, way_of, write_one};
+use std::io;
+use std::os::fd::AsFd;
+use std::random::RandomSource;
+use std::rt::{Env, Files};
 
 // Replaces the image's file, and writes the lines that were worked out afresh.
-fn print_set(
+fn print_set<R>(
+    rt: &R,
     x: &[u8],
     image: &[u8],
     base: u32,
@@ -24,15 +29,20 @@ fn print_set(
     second: &[i64],
     g: u16,
     index: u32,
-) -> Ending {
-    if is_kept(image) {
-        return print_afresh(x, image, base, t, raw, state, first, second, g, index);
+) -> io::Result<Ending>
+where
+    R: Print + Errors + Env + Files + RandomSource + AllocGlobal,
+    R::File: AsFd,
+{
+    if is_kept(rt, image) {
+        return print_afresh(rt, x, image, base, t, raw, state, first, second, g, index);
     }
-    Ending::Failed
+    Ok(Ending::Failed)
 }
 
 // Writes to the kept list and to the image, and goes on with the image's file and the lines.
-fn set_kept(
+fn set_kept<R>(
+    rt: &R,
     x: &[u8],
     image: &mut [u8],
     base: u32,
@@ -46,11 +56,16 @@ fn set_kept(
     index: u32,
     is_raw: bool,
     value: &[u8],
-) -> Ending {
+) -> io::Result<Ending>
+where
+    R: Print + Errors + Env + Files + RandomSource + AllocGlobal,
+    R::File: AsFd,
+{
     match write_one(
         x, image, base, t, raw, state, first, second, object, part, index, is_raw, value,
     ) {
         CallAnswer::Done => print_set(
+            rt,
             x,
             image,
             base,
@@ -62,12 +77,13 @@ fn set_kept(
             group_of(object, part),
             index,
         ),
-        CallAnswer::Refused { no } => refused_write(t, group_of(object, part), value, no),
+        CallAnswer::Refused { no } => refused_write(rt, t, group_of(object, part), value, no),
     }
 }
 
 // Makes the list that is kept over the write.
-fn set_element(
+fn set_element<R>(
+    rt: &R,
     x: &[u8],
     image: &mut [u8],
     base: u32,
@@ -77,7 +93,11 @@ fn set_element(
     index: u32,
     is_raw: bool,
     value: &[u8],
-) -> Ending {
+) -> io::Result<Ending>
+where
+    R: Print + Errors + Env + Files + RandomSource + AllocGlobal,
+    R::File: AsFd,
+{
     let mut raw = [0i64; LINES];
     let mut state = [0u8; LINES];
     let mut first = [0i64; LINES];
@@ -93,6 +113,7 @@ fn set_element(
         &mut second,
     ) {
         CallAnswer::Done => set_kept(
+            rt,
             x,
             image,
             base,
@@ -107,12 +128,13 @@ fn set_element(
             is_raw,
             value,
         ),
-        CallAnswer::Refused { no } => refused(no),
+        CallAnswer::Refused { no } => refused(rt, no),
     }
 }
 
 // Takes the way and the value from the arguments.
-fn set_typed(
+fn set_typed<R>(
+    rt: &R,
     x: &[u8],
     image: &mut [u8],
     base: u32,
@@ -120,13 +142,18 @@ fn set_typed(
     object: u32,
     part: u8,
     index: u32,
-) -> Ending {
+) -> io::Result<Ending>
+where
+    R: Print + Errors + Env + Files + RandomSource + AllocGlobal,
+    R::File: AsFd,
+{
     let mut word = [0u8; WORD_ROOM];
     let mut value = [0u8; WORD_ROOM];
-    let n = word_at(WAY, &mut word);
-    let k = word_at(VALUE, &mut value);
+    let n = word_at(rt, WAY, &mut word);
+    let k = word_at(rt, VALUE, &mut value);
     match way_of(front(&word, n)) {
         Way::Raw => set_element(
+            rt,
             x,
             image,
             base,
@@ -138,6 +165,7 @@ fn set_typed(
             front(&value, k),
         ),
         Way::Physical => set_element(
+            rt,
             x,
             image,
             base,
@@ -148,19 +176,24 @@ fn set_typed(
             false,
             front(&value, k),
         ),
-        Way::Neither => error_of(NO_WAY, b"", b"", front(&word, n)),
+        Way::Neither => Ok(error_of(rt, NO_WAY, b"", b"", front(&word, n))),
     }
 }
 
 // Writes the element that the arguments name.
-pub fn set(x: &[u8], image: &mut [u8], base: u32, t: &[u64]) -> Ending {
+pub fn set<R>(rt: &R, x: &[u8], image: &mut [u8], base: u32, t: &[u64]) -> io::Result<Ending>
+where
+    R: Print + Errors + Env + Files + RandomSource + AllocGlobal,
+    R::File: AsFd,
+{
     let mut name = [0u8; WORD_ROOM];
     let mut letter = [0u8; WORD_ROOM];
     let mut number = [0u8; WORD_ROOM];
-    let n = word_at(NAME, &mut name);
-    let l = word_at(PART, &mut letter);
-    let k = word_at(INDEX, &mut number);
+    let n = word_at(rt, NAME, &mut name);
+    let l = word_at(rt, PART, &mut letter);
+    let k = word_at(rt, INDEX, &mut number);
     match element_named(
+        rt,
         x,
         image,
         base,
@@ -168,12 +201,18 @@ pub fn set(x: &[u8], image: &mut [u8], base: u32, t: &[u64]) -> Ending {
         front(&name, n),
         front(&letter, l),
         front(&number, k),
-    ) {
+    )? {
         ElementTyped::At {
             object,
             part,
             index,
-        } => set_typed(x, image, base, t, object, part, index),
-        ElementTyped::Wrong { why } => error_of(why, front(&name, n), front(&number, k), b""),
+        } => set_typed(rt, x, image, base, t, object, part, index),
+        ElementTyped::Wrong { why } => Ok(error_of(
+            rt,
+            why,
+            front(&name, n),
+            front(&number, k),
+            b"",
+        )),
     }
 }

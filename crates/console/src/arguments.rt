@@ -4,6 +4,7 @@ use crate::sizes::{WORD_ROOM, front};
 use convert::edition::EDITION_ONE;
 use number::whole::WholeAnswer;
 use runs::whole::whole_of;
+use std::rt::Env;
 
 // Where each argument stands, an edition before the command not counted.
 pub const COMMAND: u8 = 1;
@@ -91,12 +92,12 @@ fn command_of(word: &[u8]) -> Command {
 }
 
 // The command that the program was called with; help where there is none.
-pub fn command_typed() -> Command {
-    if word_count() < 2 {
+pub fn command_typed(rt: &impl Env) -> Command {
+    if word_count(rt) < 2 {
         return Command::Help;
     }
     let mut word = [0u8; WORD_ROOM];
-    let n = word_at(COMMAND, &mut word);
+    let n = word_at(rt, COMMAND, &mut word);
     command_of(front(&word, n))
 }
 
@@ -113,8 +114,8 @@ fn words_of(command: Command) -> usize {
 }
 
 // Whether a command was called with the words that it has.
-pub fn has_words(command: Command) -> bool {
-    word_count() == words_of(command)
+pub fn has_words(rt: &impl Env, command: Command) -> bool {
+    word_count(rt) == words_of(command)
 }
 
 // Whether a byte is a figure of a decimal or of a hexadecimal number.
@@ -183,9 +184,9 @@ fn base_of(word: &[u8]) -> BaseTyped {
 }
 
 // The base address that the program was called with.
-pub fn base_typed() -> BaseTyped {
+pub fn base_typed(rt: &impl Env) -> BaseTyped {
     let mut word = [0u8; WORD_ROOM];
-    let n = word_at(BASE, &mut word);
+    let n = word_at(rt, BASE, &mut word);
     base_of(front(&word, n))
 }
 
@@ -198,10 +199,10 @@ fn edition_of(word: &[u8]) -> u32 {
 }
 
 // The edition that the program was called with, and the first where none was named.
-pub fn edition_typed() -> u32 {
-    if has_edition() {
+pub fn edition_typed(rt: &impl Env) -> u32 {
+    if has_edition(rt) {
         let mut word = [0u8; WORD_ROOM];
-        let n = edition_at(&mut word);
+        let n = edition_at(rt, &mut word);
         return edition_of(front(&word, n));
     }
     EDITION_ONE

@@ -1,8 +1,14 @@
-// How the program ends. It has no exit status: its last word goes to a descriptor where the script listens.
-use libc::{STDERR_FILENO, STDOUT_FILENO};
+// How the program ends, and what it says on the way: answers on standard output, errors on standard error. Who says an answer hands on that
+// it could not be written, so that nothing is written after a word that is lost.
+use std::io;
+use std::process::ExitCode;
 
-// Where the script listens for the ending; nothing happens where nobody does.
-const LISTENER: i32 = 3;
+// The exit status of each ending.
+const DONE: u8 = 0;
+
+const REFUSED: u8 = 1;
+
+const FAILED: u8 = 2;
 
 // What was asked is done, it was refused, or an error was said.
 #[derive(Clone, Copy)]
@@ -12,62 +18,60 @@ pub enum Ending {
     Failed,
 }
 
+// Standard error, which takes bytes that are no text too.
+pub trait Errors: Eprint {
+    fn write_error(&self, words: &[u8]) -> io::Result<()>;
+}
+
+impl Errors for HostRuntime {
+    fn write_error(&self, words: &[u8]) -> io::Result<()> {
+        Print::write_all(&self.stderr(), words)
+    }
+}
+
 // Writes words of an error.
-pub fn complain(words: &[u8]) {
-    io::write_all(STDERR_FILENO, words);
+pub fn complain(rt: &impl Errors, words: &[u8]) {
+    let _ = rt.write_error(words);
 }
 
 // Writes a number of an error.
-pub fn complain_number(n: u64) {
-    io::print_decimal(STDERR_FILENO, n);
-}
-
-// From here on standard output takes nothing, and no other file gets its number: what follows a lost word is lost too.
-fn lose() {
-    libc::close(STDOUT_FILENO);
-    os::open_read(b"/dev/null");
-}
-
-// What was to be written to standard output was, or nothing more is.
-pub fn heard(is_written: bool) {
-    if is_written {
-        return;
-    }
-    lose();
+pub fn complain_number(rt: &impl Errors, n: u64) {
+    let _ = rt.eprint(n);
 }
 
 // Writes words of an answer.
-pub fn say(words: &[u8]) {
-    heard(io::write_all(STDOUT_FILENO, words));
+pub fn say(rt: &impl Print, words: &[u8]) -> io::Result<()> {
+    rt.write_all(words)
 }
 
 // Writes a number of an answer.
-pub fn say_number(n: u64) {
-    heard(io::print_decimal(STDOUT_FILENO, n));
+pub fn say_number(rt: &impl Print, n: u64) -> io::Result<()> {
+    rt.print(n)
 }
 
-// Whether all that was said has been written: standard output still takes words, and closing it finds nothing left over.
-fn is_heard() -> bool {
-    let taken = libc::write(STDOUT_FILENO, b"");
-    let closed = libc::close(STDOUT_FILENO);
-    (taken == 0) & (closed == 0)
+// Whether all that was said has been written, and standard output still takes words.
+pub fn heard(rt: &impl Print, said: io::Result<Ending>) -> io::Result<Ending> {
+    let ending = said?;
+    rt.write_some(b"")?;
+    Ok(ending)
 }
 
-// Tells the script how the program ended.
-fn tell(ending: Ending) {
+// The exit status of an ending.
+fn status_of(ending: Ending) -> u8 {
     match ending {
-        Ending::Done => io::write_all(LISTENER, b"0"),
-        Ending::Refused => io::write_all(LISTENER, b"1"),
-        Ending::Failed => io::write_all(LISTENER, b"2"),
-    };
+        Ending::Done => DONE,
+        Ending::Refused => REFUSED,
+        Ending::Failed => FAILED,
+    }
 }
 
 // Ends the program; output that could not be written is an error.
-pub fn end(ending: Ending) {
-    if is_heard() {
-        tell(ending);
-        return;
+pub fn end(rt: &(impl Print + Errors), said: io::Result<Ending>) -> ExitCode {
+    match heard(rt, said) {
+        Ok(ending) => ExitCode::from(status_of(ending)),
+        Err(_) => {
+            complain(rt, b"error: the output could not be written\n");
+            ExitCode::from(FAILED)
+        }
     }
-    complain(b"error: the output could not be written\n");
-    tell(Ending::Failed);
 }

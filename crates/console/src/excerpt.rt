@@ -5,6 +5,7 @@ use crate::buffer::put_byte;
 use crate::ending::say;
 use crate::sizes::front;
 use lines::field::line_end;
+use std::io;
 
 // The most bytes that are shown of a line.
 const SHOWN: usize = 120;
@@ -51,26 +52,26 @@ fn put_shown(x: &[u8], a: usize, e: usize, out: &mut [u8]) -> usize
 }
 
 // Writes blanks.
-fn say_blanks(many: usize) {
+fn say_blanks(rt: &impl Print, many: usize) -> io::Result<()> {
     let blanks = [32u8; SHOWN];
-    say(front(&blanks, many));
+    say(rt, front(&blanks, many))
 }
 
 // Writes the line that has the place, which stands in its column, and a mark below it.
-pub fn say_excerpt(x: &[u8], place: usize, column: usize) {
+pub fn say_excerpt(rt: &impl Print, x: &[u8], place: usize, column: usize) -> io::Result<()> {
     if column == 0 {
-        return;
+        return Ok(());
     }
     let before = column - 1;
     if place < before {
-        return;
+        return Ok(());
     }
     let start = place - before;
     let skipped = left_out(before);
     let mut line = [0u8; SHOWN];
     let n = put_shown(x, start + skipped, line_end(x, start), &mut line);
-    say(front(&line, n));
-    say(b"\n");
-    say_blanks(before - skipped);
-    say(b"^\n");
+    say(rt, front(&line, n))?;
+    say(rt, b"\n")?;
+    say_blanks(rt, before - skipped)?;
+    say(rt, b"^\n")
 }

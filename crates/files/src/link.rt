@@ -1,7 +1,10 @@
 // Symbolic links: the file that a path stands for in the end.
-use crate::path::{SLASH, ended, folder_bytes};
+use crate::path::{SLASH, folder_bytes, text_of};
 use console::buffer::put;
 use console::sizes::{WORD_ROOM, front};
+use std::io::ErrorKind;
+use std::rt::Files;
+use std::{fs, io};
 
 // How many links are followed at most, as the system does.
 const LINKS: usize = 40;
@@ -36,40 +39,55 @@ fn put_target(path: &[u8], text: &[u8], out: &mut [u8]) -> usize {
     put(out, a, text)
 }
 
-// Puts the path that the link at a path names; the end where it is no link; nothing where it is too long.
-fn follow(path: &[u8], out: &mut [u8]) -> Followed {
-    let mut text = [0u8; WORD_ROOM];
-    let name = ended(path);
-    let got = libc::readlink(&name, &mut text);
-    if got < 0 {
-        return Followed::End;
-    }
-    let n = io::count(got, &text);
-    let k = put_target(path, front(&text, n), out);
-    if (n < WORD_ROOM) & (k < WORD_ROOM) {
+// Puts the path that a link's text names; nothing where it is too long.
+fn named_by(path: &[u8], text: &[u8], out: &mut [u8]) -> Followed {
+    let k = put_target(path, text, out);
+    if k < WORD_ROOM {
         return Followed::Link(k);
     }
     Followed::Nothing
 }
 
+// Whether a link's text could not be had: it is no path that the system can be asked for, or there is no memory for it.
+fn is_unknown(error: io::Error) -> bool {
+    (error.kind() == ErrorKind::InvalidFilename) | (error.kind() == ErrorKind::OutOfMemory)
+}
+
+// Puts the path that the link at a path names; the end where it is no link; nothing where it is too long, and an error where it is not known.
+fn follow(rt: &(impl Files + AllocGlobal), path: &[u8], out: &mut [u8]) -> io::Result<Followed> {
+    match fs::read_link(rt, text_of(path)?) {
+        Ok(target) => Ok(named_by(path, target.as_str().as_bytes(), out)),
+        Err(error) => {
+            if is_unknown(error) {
+                return Err(error);
+            }
+            Ok(Followed::End)
+        }
+    }
+}
+
 // Puts the path of the file that a path stands for once every link is followed, and answers its length; nothing where the links are too
-// many or a path is too long.
-pub fn resolve(path: &[u8], out: &mut [u8]) -> Resolved {
+// many or a path is too long, and an error where a link's text is not known.
+pub fn resolve(
+    rt: &(impl Files + AllocGlobal),
+    path: &[u8],
+    out: &mut [u8],
+) -> io::Result<Resolved> {
     let mut next = [0u8; WORD_ROOM];
     let mut n = put(out, 0, path);
     let mut turns: usize = 0;
     while turns <= LINKS {
         if n >= WORD_ROOM {
-            return Resolved::Nothing;
+            return Ok(Resolved::Nothing);
         }
-        match follow(front(out, n), &mut next) {
-            Followed::End => return Resolved::At(n),
+        match follow(rt, front(out, n), &mut next)? {
+            Followed::End => return Ok(Resolved::At(n)),
             Followed::Link(k) => {
                 n = put(out, 0, front(&next, k));
             }
-            Followed::Nothing => return Resolved::Nothing,
+            Followed::Nothing => return Ok(Resolved::Nothing),
         }
         turns += 1;
     }
-    Resolved::Nothing
+    Ok(Resolved::Nothing)
 }

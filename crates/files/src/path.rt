@@ -1,9 +1,8 @@
-// Paths: their folders, and as the system reads them.
-ghost use Rattle.libc.specs.Io.{Ended};
-
-use libc::PATH_MAX;
-
-const LAST: usize = PATH_MAX - 1;
+// Paths: their folders, as the system is asked for them, and making a file of a path.
+use std::fs::File;
+use std::io;
+use std::io::ErrorKind;
+use std::rt::Files;
 
 pub const SLASH: u8 = 47;
 
@@ -20,19 +19,18 @@ pub fn folder_bytes(path: &[u8]) -> usize {
     n
 }
 
-// A path as the system reads it: zeros after it, and the last byte is one of them. What is longer is cut, so a caller looks at the length.
-pub fn ended(path: &[u8]) -> [u8; PATH_MAX]
-    ensures { Ended result }
-{
-    let mut out = io::buffer();
-    let mut i: usize = 0;
-    while i < path.len() {
-        if i >= LAST {
-            break;
-        }
-        out[i] = path[i];
-        i += 1;
+// A path as the system is asked for it, which is text; an error where it is none.
+pub fn text_of(path: &[u8]) -> io::Result<&str> {
+    match str::from_utf8(path) {
+        Ok(text) => Ok(text),
+        Err(_) => Err(io::Error::from(ErrorKind::InvalidFilename)),
     }
-    out[LAST] = 0;
-    out
+}
+
+// Makes a file that there was none of, to write to.
+pub fn create<R: Files>(rt: &R, path: &[u8]) -> io::Result<R::File> {
+    File::options()
+        .write(true)
+        .create_new(true)
+        .open(rt, text_of(path)?)
 }

@@ -10,14 +10,20 @@
 // by force itself, leaves a new file that no note names.)
 use crate::link::{Resolved, resolve};
 use crate::note::{FIGURES, Noted, is_cleared, make_note, put_chance, put_new, remove_note};
-use crate::path::{ended, folder_bytes};
+use crate::path::{create, folder_bytes, text_of};
 use crate::status::{Status, status_of};
 use console::arguments::IMAGE;
 use console::called::word_at;
-use console::ending::Ending;
+use console::ending::{Ending, Errors};
 use console::message::error_about;
 use console::sizes::{WORD_ROOM, front};
-use libc::PATH_MAX;
+use std::fs::{File, OpenFile, Permissions};
+use std::io::Write;
+use std::os::fd::AsFd;
+use std::os::unix::fs::{PermissionsExt, fchown};
+use std::random::RandomSource;
+use std::rt::{Env, Files};
+use std::{fs, io};
 
 // The bits of a mode: that someone may write, and all that are set by hand.
 const WRITE_BITS: u32 = 0o222;
@@ -26,9 +32,6 @@ const MODE_BITS: u32 = 0o7777;
 
 // The mode of a new file that is not whole yet: its owner's alone.
 const OWN_MODE: u32 = 0o600;
-
-// What the system takes for "leave as it is".
-const SAME: u32 = 4294967295;
 
 // What became of it, or what stood in the way.
 #[derive(Clone, Copy)]
@@ -44,35 +47,55 @@ enum Replaced {
 }
 
 // Gives a file the image's group and owner, each where that is allowed, then the image's mode; false where the mode cannot be given.
-fn is_given(fd: i32, status: Status) -> bool {
-    libc::fchown(fd, SAME, status.group);
-    libc::fchown(fd, status.owner, SAME);
-    libc::fchmod(fd, status.mode & MODE_BITS) == 0
+fn is_given(file: &(impl OpenFile + AsFd), status: Status) -> bool {
+    let _ = fchown(file, None, Some(status.group));
+    let _ = fchown(file, Some(status.owner), None);
+    file.set_permissions(Permissions::from_mode(status.mode & MODE_BITS))
+        .is_ok()
 }
 
 // Writes the bytes to a new file, which nobody else may read on the way, gives it what the image has and flushes it to the disk; false where
 // any of it fails.
-fn is_filled(fd: i32, status: Status, image: &[u8]) -> bool {
-    let own = libc::fchmod(fd, OWN_MODE);
-    let all = io::write_all(fd, image);
-    let given = is_given(fd, status);
-    let flushed = libc::fsync(fd);
-    let closed = libc::close(fd);
-    (own == 0) & all & given & (flushed == 0) & (closed == 0)
+fn is_filled(mut file: impl Write + OpenFile + AsFd + Drop, status: Status, image: &[u8]) -> bool {
+    file.set_permissions(Permissions::from_mode(OWN_MODE))
+        .is_ok()
+        && file.write_all(image).is_ok()
+        && is_given(&file, status)
+        && file.sync_all().is_ok()
+}
+
+// Gives the new file the image's name; false where that fails.
+fn is_named(rt: &impl Files, new: &[u8], path: &[u8]) -> bool {
+    let Ok(from) = text_of(new) else {
+        return false;
+    };
+    let Ok(to) = text_of(path) else {
+        return false;
+    };
+    fs::rename(rt, from, to).is_ok()
+}
+
+// Removes the new file; false where that fails.
+fn is_removed(rt: &impl Files, new: &[u8]) -> bool {
+    let Ok(name) = text_of(new) else {
+        return false;
+    };
+    fs::remove_file(rt, name).is_ok()
 }
 
 // Writes the new file and gives it the image's name; removes it where that fails. Where it is gone, another program has taken it away.
-fn renamed(path: &[u8], new: &[u8], status: Status, image: &[u8]) -> Replaced {
-    let fd = os::create(new);
-    if fd < 0 {
+fn renamed<R>(rt: &R, path: &[u8], new: &[u8], status: Status, image: &[u8]) -> Replaced
+where
+    R: Files,
+    R::File: AsFd,
+{
+    let Ok(file) = create(rt, new) else {
         return Replaced::Beside;
+    };
+    if is_filled(file, status, image) && is_named(rt, new, path) {
+        return Replaced::Done;
     }
-    if is_filled(fd, status, image) {
-        if os::rename(new, path) == 0 {
-            return Replaced::Done;
-        }
-    }
-    if os::unlink(new) == 0 {
+    if is_removed(rt, new) {
         return Replaced::Beside;
     }
     Replaced::Other
@@ -80,38 +103,55 @@ fn renamed(path: &[u8], new: &[u8], status: Status, image: &[u8]) -> Replaced {
 
 // Replaces the file once the figures are noted, and takes the note away, unless another program has taken this one for ended: then it is
 // the other's.
-fn replaced_noted(path: &[u8], figures: &[u8], status: Status, image: &[u8]) -> Replaced {
+fn replaced_noted<R>(rt: &R, path: &[u8], figures: &[u8], status: Status, image: &[u8]) -> Replaced
+where
+    R: Files,
+    R::File: AsFd,
+{
     let mut new = [0u8; WORD_ROOM];
     let k = put_new(path, figures, &mut new);
-    let r = renamed(path, front(&new, k), status, image);
+    let r = renamed(rt, path, front(&new, k), status, image);
     match r {
         Replaced::Other => Replaced::Other,
         _ => {
-            remove_note(path);
+            let _ = remove_note(rt, path);
             r
         }
     }
 }
 
-// Replaces a file that may be replaced: what an ended run left is removed, then the new file is noted, written and renamed.
-fn replaced_beside(path: &[u8], status: Status, image: &[u8]) -> Replaced {
-    if !is_cleared(path) {
-        return Replaced::Note;
-    }
+// Notes the figures of the new file, and goes on with it.
+fn replaced_cleared<R>(rt: &R, path: &[u8], status: Status, image: &[u8]) -> Replaced
+where
+    R: Files + RandomSource,
+    R::File: AsFd,
+{
     let mut figures = [0u8; FIGURES];
-    put_chance(&mut figures);
-    match make_note(path, &figures) {
-        Noted::Made => replaced_noted(path, &figures, status, image),
+    put_chance(rt, &mut figures);
+    match make_note(rt, path, &figures) {
+        Noted::Made => replaced_noted(rt, path, &figures, status, image),
         Noted::Taken => Replaced::Note,
+        Noted::Shut => Replaced::Folder,
         Noted::Failed => Replaced::Beside,
     }
 }
 
-// The status of what was opened, which is closed; not known where it could not be opened.
-fn status_closed(fd: i32) -> Status {
-    let status = status_of(fd);
-    libc::close(fd);
-    status
+// Replaces a file that may be replaced: what an ended run left is removed, then the new file is noted, written and renamed.
+fn replaced_beside<R>(rt: &R, path: &[u8], status: Status, image: &[u8]) -> Replaced
+where
+    R: Files + RandomSource,
+    R::File: AsFd,
+{
+    match is_cleared(rt, path) {
+        Ok(true) => replaced_cleared(rt, path, status, image),
+        Ok(false) => Replaced::Note,
+        Err(_) => Replaced::Folder,
+    }
+}
+
+// The status of what was opened, which is closed; an error where it could not be opened.
+fn status_closed(opened: io::Result<impl OpenFile + Drop>) -> io::Result<Status> {
+    status_of(&opened?)
 }
 
 // Whether a mode lets anyone write. Where it does not, nobody writes here, not even who may write everything.
@@ -119,81 +159,105 @@ fn is_write_mode(mode: u32) -> bool {
     mode & WRITE_BITS != 0
 }
 
-// Whether a folder may be written, by its mode, where it can be known, and by the system's word.
-fn is_open(folder: &[u8]) -> bool {
-    let status = status_closed(os::open_read(folder));
-    if status.known & !is_write_mode(status.mode) {
+// Whether a folder may be written by its mode, where it can be known. What else keeps it from being written shows when the note is made.
+fn is_open(rt: &impl Files, folder: &[u8]) -> bool {
+    let Ok(name) = text_of(folder) else {
         return false;
+    };
+    match status_closed(fs::open(rt, name)) {
+        Ok(status) => is_write_mode(status.mode),
+        Err(_) => true,
     }
-    let name = ended(folder);
-    (folder.len() < PATH_MAX) & (libc::access(&name, libc::W_OK) == 0)
 }
 
 // Whether the folder that holds a file may be written.
-fn is_folder_open(path: &[u8]) -> bool {
+fn is_folder_open(rt: &impl Files, path: &[u8]) -> bool {
     let n = folder_bytes(path);
     if n == 0 {
-        return is_open(b".");
+        return is_open(rt, b".");
     }
-    is_open(front(path, n))
+    is_open(rt, front(path, n))
+}
+
+// Opens a file to read and write it.
+fn open_update<R: Files>(rt: &R, path: &[u8]) -> io::Result<R::File> {
+    File::options()
+        .read(true)
+        .write(true)
+        .open(rt, text_of(path)?)
 }
 
 // Replaces a file that is no link, where it and its folder may be written.
-fn replaced_file(path: &[u8], image: &[u8]) -> Replaced {
-    let status = status_closed(os::open_update(path));
-    if !status.known {
+fn replaced_file<R>(rt: &R, path: &[u8], image: &[u8]) -> Replaced
+where
+    R: Files + RandomSource,
+    R::File: AsFd,
+{
+    let Ok(status) = status_closed(open_update(rt, path)) else {
         return Replaced::Image;
-    }
-    if status.mode & libc::S_IFMT != libc::S_IFREG {
+    };
+    if !status.ordinary {
         return Replaced::Kind;
     }
     if !is_write_mode(status.mode) {
         return Replaced::Image;
     }
-    if !is_folder_open(path) {
+    if !is_folder_open(rt, path) {
         return Replaced::Folder;
     }
-    replaced_beside(path, status, image)
+    replaced_beside(rt, path, status, image)
 }
 
 // Replaces the file that a path stands for.
-fn replaced_at(path: &[u8], image: &[u8]) -> Replaced {
+fn replaced_at<R>(rt: &R, path: &[u8], image: &[u8]) -> Replaced
+where
+    R: Files + RandomSource + AllocGlobal,
+    R::File: AsFd,
+{
     let mut file = [0u8; WORD_ROOM];
-    match resolve(path, &mut file) {
-        Resolved::At(n) => replaced_file(front(&file, n), image),
-        Resolved::Nothing => Replaced::Links,
+    match resolve(rt, path, &mut file) {
+        Ok(Resolved::At(n)) => replaced_file(rt, front(&file, n), image),
+        Ok(Resolved::Nothing) => Replaced::Links,
+        Err(_) => Replaced::Beside,
     }
 }
 
 // Says what stood in the way.
-fn complain_about(r: Replaced, path: &[u8]) -> Ending {
+fn complain_about(rt: &impl Errors, r: Replaced, path: &[u8]) -> Ending {
     match r {
         Replaced::Done => Ending::Done,
         Replaced::Links => error_about(
+            rt,
             b"nothing is written, since there are too many links, or too long ones, at ",
             path,
         ),
         Replaced::Image => error_about(
+            rt,
             b"nothing is written, since the image may not be written: ",
             path,
         ),
         Replaced::Kind => error_about(
+            rt,
             b"nothing is written, since this is no ordinary file: ",
             path,
         ),
         Replaced::Folder => error_about(
+            rt,
             b"nothing is written, since the folder may not be written that holds ",
             path,
         ),
         Replaced::Note => error_about(
+            rt,
             b"nothing is written, since another file has the name of the note (the image's with .writing after it) beside ",
             path,
         ),
         Replaced::Beside => error_about(
+            rt,
             b"nothing is written, since no new file can be made beside ",
             path,
         ),
         Replaced::Other => error_about(
+            rt,
             b"nothing is written, since another program writes at the same time: ",
             path,
         ),
@@ -201,19 +265,24 @@ fn complain_about(r: Replaced, path: &[u8]) -> Ending {
 }
 
 // Whether the file was replaced; what stood in the way is said.
-fn is_done(r: Replaced, path: &[u8]) -> bool {
+fn is_done(rt: &impl Errors, r: Replaced, path: &[u8]) -> bool {
     match r {
         Replaced::Done => true,
         _ => {
-            complain_about(r, path);
+            complain_about(rt, r, path);
             false
         }
     }
 }
 
 // Replaces the image's file; an error is said, and then the file is as it was.
-pub fn is_kept(image: &[u8]) -> bool {
+pub fn is_kept<R>(rt: &R, image: &[u8]) -> bool
+where
+    R: Files + Env + RandomSource + AllocGlobal + Errors,
+    R::File: AsFd,
+{
     let mut path = [0u8; WORD_ROOM];
-    let n = word_at(IMAGE, &mut path);
-    is_done(replaced_at(front(&path, n), image), front(&path, n))
+    let n = word_at(rt, IMAGE, &mut path);
+    let r = replaced_at(rt, front(&path, n), image);
+    is_done(rt, r, front(&path, n))
 }

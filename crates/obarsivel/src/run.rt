@@ -5,92 +5,145 @@ use commands::listed::list;
 use commands::set::set;
 use console::arguments::{BASE, BaseTyped, Command, DESCRIPTION, IMAGE, base_typed, edition_typed};
 use console::called::word_at;
-use console::ending::Ending;
+use console::ending::{Ending, Errors};
 use console::message::{error_about, refused, refused_load, refused_size};
 use console::sizes::{
     IMAGE_BYTES, IMAGE_ROOM, TABLE_CELLS, TEXT_BYTES, TEXT_ROOM, WORD_ROOM, WORK_CELLS, front,
 };
 use files::file::{FileRead, read_file};
 use load::{LoadAnswer, load};
+use std::io;
+use std::os::fd::AsFd;
+use std::random::RandomSource;
+use std::rt::{Env, Files};
 use tables::setting::Setting;
 
 // "base plus image above 2^32"
 const SIZES: u8 = 20;
 
 // Carries out the command on the image and the tables of its description.
-fn run_command(command: Command, x: &[u8], image: &mut [u8], base: u32, t: &[u64]) -> Ending {
+fn run_command<R>(
+    rt: &R,
+    command: Command,
+    x: &[u8],
+    image: &mut [u8],
+    base: u32,
+    t: &[u64],
+) -> io::Result<Ending>
+where
+    R: Print + Errors + Env + Files + RandomSource + AllocGlobal,
+    R::File: AsFd,
+{
     match command {
-        Command::List => list(x, image, base, t),
-        Command::Get => get(x, image, base, t),
-        Command::Set => set(x, image, base, t),
-        Command::Apply => apply(x, image, base, t),
-        Command::Help => Ending::Failed,
-        Command::Unknown => Ending::Failed,
+        Command::List => list(rt, x, image, base, t),
+        Command::Get => get(rt, x, image, base, t),
+        Command::Set => set(rt, x, image, base, t),
+        Command::Apply => apply(rt, x, image, base, t),
+        Command::Help => Ok(Ending::Failed),
+        Command::Unknown => Ok(Ending::Failed),
     }
 }
 
 // Loads the description, and carries out the command on the image.
-fn run_loaded(command: Command, x: &[u8], image: &mut [u8], s: Setting) -> Ending {
+fn run_loaded<R>(
+    rt: &R,
+    command: Command,
+    x: &[u8],
+    image: &mut [u8],
+    s: Setting,
+) -> io::Result<Ending>
+where
+    R: Print + Errors + Env + Files + RandomSource + AllocGlobal,
+    R::File: AsFd,
+{
     let mut t = [0u64; TABLE_CELLS];
     let mut work = [0u64; WORK_CELLS];
     match load(x, image, s, &mut t, &mut work) {
-        LoadAnswer::Accepted => run_command(command, x, image, s.base, &t),
-        LoadAnswer::Refused { no, place } => refused_load(x, no, place),
+        LoadAnswer::Accepted => run_command(rt, command, x, image, s.base, &t),
+        LoadAnswer::Refused { no, place } => refused_load(rt, x, no, place),
     }
 }
 
 // The image is the first m bytes of its buffer.
-fn run_image(command: Command, x: &[u8], image: &mut [u8], m: usize, s: Setting) -> Ending {
+fn run_image<R>(
+    rt: &R,
+    command: Command,
+    x: &[u8],
+    image: &mut [u8],
+    m: usize,
+    s: Setting,
+) -> io::Result<Ending>
+where
+    R: Print + Errors + Env + Files + RandomSource + AllocGlobal,
+    R::File: AsFd,
+{
     if IMAGE_BYTES < m {
-        return refused_size(b"the image", IMAGE_BYTES);
+        return refused_size(rt, b"the image", IMAGE_BYTES);
     }
     if m <= image.len() {
-        return run_loaded(command, x, &mut image[0..m], s);
+        return run_loaded(rt, command, x, &mut image[0..m], s);
     }
-    Ending::Failed
+    Ok(Ending::Failed)
 }
 
 // The image is read beside the description.
-fn run_text(command: Command, x: &[u8], s: Setting) -> Ending {
+fn run_text<R>(rt: &R, command: Command, x: &[u8], s: Setting) -> io::Result<Ending>
+where
+    R: Print + Errors + Env + Files + RandomSource + AllocGlobal,
+    R::File: AsFd,
+{
     let mut image = [0u8; IMAGE_ROOM];
-    match read_file(IMAGE, &mut image) {
-        FileRead::Bytes(m) => run_image(command, x, &mut image, m, s),
-        FileRead::Nothing => Ending::Failed,
+    match read_file(rt, IMAGE, &mut image) {
+        FileRead::Bytes(m) => run_image(rt, command, x, &mut image, m, s),
+        FileRead::Nothing => Ok(Ending::Failed),
     }
 }
 
 // The description is read, and then the image.
-fn run_from(command: Command, s: Setting) -> Ending {
+fn run_from<R>(rt: &R, command: Command, s: Setting) -> io::Result<Ending>
+where
+    R: Print + Errors + Env + Files + RandomSource + AllocGlobal,
+    R::File: AsFd,
+{
     let mut text = [0u8; TEXT_ROOM];
-    match read_file(DESCRIPTION, &mut text) {
+    match read_file(rt, DESCRIPTION, &mut text) {
         FileRead::Bytes(n) => {
             if TEXT_BYTES < n {
-                return refused_size(b"the description", TEXT_BYTES);
+                return refused_size(rt, b"the description", TEXT_BYTES);
             }
-            run_text(command, front(&text, n), s)
+            run_text(rt, command, front(&text, n), s)
         }
-        FileRead::Nothing => Ending::Failed,
+        FileRead::Nothing => Ok(Ending::Failed),
     }
 }
 
 // Says that the base address is no number.
-fn no_base() -> Ending {
+fn no_base(rt: &(impl Env + Errors)) -> Ending {
     let mut word = [0u8; WORD_ROOM];
-    let n = word_at(BASE, &mut word);
-    error_about(b"the base address is no whole number: ", front(&word, n))
+    let n = word_at(rt, BASE, &mut word);
+    error_about(
+        rt,
+        b"the base address is no whole number: ",
+        front(&word, n),
+    )
 }
 
 // Takes the base address and the edition, and goes on with the files.
-pub fn run(command: Command) -> Ending {
-    match base_typed() {
+pub fn run<R>(rt: &R, command: Command) -> io::Result<Ending>
+where
+    R: Print + Errors + Env + Files + RandomSource + AllocGlobal,
+    R::File: AsFd,
+{
+    match base_typed(rt) {
         BaseTyped::Address(base) => run_from(
+            rt,
             command,
             Setting {
                 base,
-                edition: edition_typed(),
+                edition: edition_typed(rt),
             },
         ),
-        BaseTyped::TooLarge => refused(SIZES),
-        BaseTyped::Nothing => no_base(),
+        BaseTyped::TooLarge => refused(rt, SIZES),
+        BaseTyped::Nothing => Ok(no_base(rt)),
     }
 }

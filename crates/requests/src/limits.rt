@@ -5,50 +5,57 @@ use console::message::{refused, say_refused};
 use convert::asked::{OUTSIDE_LIMITS, RawAnswer};
 use convert::fraction::{NUMBER, Physical};
 use look::meaning::means;
+use std::io;
 use wanted::wanted::raw_rounded;
 
 // Writes a whole number with its sign.
-fn say_signed(z: i64) {
+fn say_signed(rt: &impl Print, z: i64) -> io::Result<()> {
     if z < 0 {
-        say(b"-");
+        say(rt, b"-")?;
     }
-    say_number(size(z));
+    say_number(rt, size(z))
 }
 
 // Says that the asked value is outside.
-fn say_asked() {
-    say(b"the asked value is outside the limits\n");
+fn say_asked(rt: &impl Print) -> io::Result<()> {
+    say(rt, b"the asked value is outside the limits\n")
 }
 
 // Says that what would be stored is outside: the value that it means, or the number where it means none.
-fn say_stored(raw: i64, p: Physical) {
+fn say_stored(rt: &impl Print, raw: i64, p: Physical) -> io::Result<()> {
     if p.state == NUMBER {
-        say(b"the value that would be stored, ");
-        say_signed(p.first);
-        say(b"/");
-        say_signed(p.second);
-        say(b", is outside the limits\n");
+        say(rt, b"the value that would be stored, ")?;
+        say_signed(rt, p.first)?;
+        say(rt, b"/")?;
+        say_signed(rt, p.second)?;
+        say(rt, b", is outside the limits\n")
     } else {
-        say(b"the number that would be stored, ");
-        say_signed(raw);
-        say(b", means no value\n");
+        say(rt, b"the number that would be stored, ")?;
+        say_signed(rt, raw)?;
+        say(rt, b", means no value\n")
     }
 }
 
 // Says why a write of a physical value to group g was refused by 16.
-fn refused_limits(t: &[u64], g: u16, asked: &[u8]) -> Ending {
-    say_refused(OUTSIDE_LIMITS);
+fn refused_limits(rt: &impl Print, t: &[u64], g: u16, asked: &[u8]) -> io::Result<Ending> {
+    say_refused(rt, OUTSIDE_LIMITS)?;
     match raw_rounded(t, g, asked) {
-        RawAnswer::Raw(raw) => say_stored(raw, means(t, g, raw)),
-        RawAnswer::Refused { no: _ } => say_asked(),
+        RawAnswer::Raw(raw) => say_stored(rt, raw, means(t, g, raw))?,
+        RawAnswer::Refused { no: _ } => say_asked(rt)?,
     }
-    Ending::Refused
+    Ok(Ending::Refused)
 }
 
 // Says why a write to group g was refused.
-pub fn refused_write(t: &[u64], g: u16, asked: &[u8], no: u8) -> Ending {
+pub fn refused_write(
+    rt: &impl Print,
+    t: &[u64],
+    g: u16,
+    asked: &[u8],
+    no: u8,
+) -> io::Result<Ending> {
     if no == OUTSIDE_LIMITS {
-        return refused_limits(t, g, asked);
+        return refused_limits(rt, t, g, asked);
     }
-    refused(no)
+    refused(rt, no)
 }

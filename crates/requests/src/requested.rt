@@ -2,12 +2,13 @@
 use ask::typed::{RawTyped, part_of, raw_typed};
 use console::arguments::{NumberTyped, index_of};
 use console::called::is_same;
-use console::ending::{Ending, complain};
+use console::ending::{Ending, Errors, complain};
 use console::message::refused;
 use list::write::{write_physical, write_raw};
 use look::call::CallAnswer;
 use look::search::SearchAnswer;
 use named::search;
+use std::io;
 
 // What is wrong with a request: a refusal that was said already, its fields, its index, its name, its way.
 pub const SAID: u8 = 0;
@@ -37,6 +38,7 @@ pub enum Way {
 
 // The element of a name, a part and an index.
 pub fn element_named(
+    rt: &impl Print,
     x: &[u8],
     image: &[u8],
     base: u32,
@@ -44,20 +46,20 @@ pub fn element_named(
     name: &[u8],
     part: &[u8],
     index: &[u8],
-) -> ElementTyped {
+) -> io::Result<ElementTyped> {
     let NumberTyped::Number(i) = index_of(index) else {
-        return ElementTyped::Wrong { why: NO_INDEX };
+        return Ok(ElementTyped::Wrong { why: NO_INDEX });
     };
     match search(x, image, base, t, name) {
-        SearchAnswer::At(object) => ElementTyped::At {
+        SearchAnswer::At(object) => Ok(ElementTyped::At {
             object: object as u32,
             part: part_of(part),
             index: i,
-        },
-        SearchAnswer::Nothing => ElementTyped::Wrong { why: NO_NAME },
+        }),
+        SearchAnswer::Nothing => Ok(ElementTyped::Wrong { why: NO_NAME }),
         SearchAnswer::Refused { no } => {
-            refused(no);
-            ElementTyped::Wrong { why: SAID }
+            refused(rt, no)?;
+            Ok(ElementTyped::Wrong { why: SAID })
         }
     }
 }
@@ -74,34 +76,35 @@ pub fn way_of(word: &[u8]) -> Way {
 }
 
 // Says what is wrong with a request of these words.
-pub fn complain_of(why: u8, name: &[u8], index: &[u8], way: &[u8]) {
+pub fn complain_of(rt: &impl Errors, why: u8, name: &[u8], index: &[u8], way: &[u8]) {
     match why {
         NO_FIELDS => complain(
+            rt,
             b"a request has five fields parted by tabs: NAME PART INDEX raw|phys VALUE",
         ),
         NO_INDEX => {
-            complain(b"the index is no whole number: ");
-            complain(index);
+            complain(rt, b"the index is no whole number: ");
+            complain(rt, index);
         }
         NO_NAME => {
-            complain(b"no object has the name ");
-            complain(name);
+            complain(rt, b"no object has the name ");
+            complain(rt, name);
         }
         _ => {
-            complain(b"a value is written as raw or phys, not as ");
-            complain(way);
+            complain(rt, b"a value is written as raw or phys, not as ");
+            complain(rt, way);
         }
     }
-    complain(b"\n");
+    complain(rt, b"\n");
 }
 
 // Says what is wrong with the words of an argument list, where it was not said already.
-pub fn error_of(why: u8, name: &[u8], index: &[u8], way: &[u8]) -> Ending {
+pub fn error_of(rt: &impl Errors, why: u8, name: &[u8], index: &[u8], way: &[u8]) -> Ending {
     if why == SAID {
         return Ending::Refused;
     }
-    complain(b"error: ");
-    complain_of(why, name, index, way);
+    complain(rt, b"error: ");
+    complain_of(rt, why, name, index, way);
     Ending::Failed
 }
 

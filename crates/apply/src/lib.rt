@@ -6,7 +6,7 @@ use console::ending::{Ending, Errors, complain, complain_number, say, say_number
 use console::message::{error_about, refused, refused_size};
 use console::sizes::{LINES, TEXT_BYTES, TEXT_ROOM, front};
 use files::file::{FileRead, read_file};
-use files::replace::is_kept;
+use files::replace::{Edits, is_kept};
 use lines::field::{field_count, field_of, line_end};
 use list::make::make_list;
 use look::call::CallAnswer;
@@ -15,9 +15,6 @@ use requests::requested::{
     ElementTyped, NO_FIELDS, NO_WAY, SAID, Way, complain_of, element_named, way_of, write_one,
 };
 use std::io;
-use std::os::fd::AsFd;
-use std::random::RandomSource;
-use std::rt::{Env, Files};
 
 // How many fields a request has, and which they are.
 const FIELDS: usize = 5;
@@ -202,20 +199,9 @@ fn answer_to(
             index,
             is_raw,
         } => {
+            let value = field_of(line, VALUE);
             match write_one(
-                x,
-                image,
-                base,
-                t,
-                raw,
-                state,
-                first,
-                second,
-                object,
-                part,
-                index,
-                is_raw,
-                field_of(line, VALUE),
+                x, image, base, t, raw, state, first, second, object, part, index, is_raw, value,
             ) {
                 CallAnswer::Done => Ok(DONE),
                 CallAnswer::Refused { no } => Ok(no),
@@ -253,18 +239,8 @@ fn apply_all(
         if end < from {
             return Ok(n);
         }
-        let no = answer_to(
-            rt,
-            between(q, from, end),
-            x,
-            image,
-            base,
-            t,
-            raw,
-            state,
-            first,
-            second,
-        )?;
+        let line = between(q, from, end);
+        let no = answer_to(rt, line, x, image, base, t, raw, state, first, second)?;
         note(answers, n, no);
         n = n + 1;
         if q.len() <= end {
@@ -333,11 +309,7 @@ fn ending_of(answers: &[u8]) -> Ending {
 }
 
 // Whether the image's file holds what the answers say: replaced where a write is done, left where none is.
-fn is_settled<R>(rt: &R, answers: &[u8], image: &[u8]) -> bool
-where
-    R: Errors + Env + Files + RandomSource + AllocGlobal,
-    R::File: AsFd,
-{
+fn is_settled(rt: &impl Edits, answers: &[u8], image: &[u8]) -> bool {
     if has_done(answers) {
         return is_kept(rt, image);
     }
@@ -354,8 +326,8 @@ fn ending_after(listed: Ending, answers: &[u8]) -> Ending {
 }
 
 // Settles the image's file, and writes the answers and the listing.
-fn print_kept<R>(
-    rt: &R,
+fn print_kept(
+    rt: &(impl Print + Edits),
     x: &[u8],
     image: &[u8],
     base: u32,
@@ -365,11 +337,7 @@ fn print_kept<R>(
     first: &[i64],
     second: &[i64],
     answers: &[u8],
-) -> io::Result<Ending>
-where
-    R: Print + Errors + Env + Files + RandomSource + AllocGlobal,
-    R::File: AsFd,
-{
+) -> io::Result<Ending> {
     if !is_settled(rt, answers, image) {
         return Ok(Ending::Failed);
     }
@@ -379,8 +347,8 @@ where
 }
 
 // Carries out the requests on the kept list, and goes on with their answers.
-fn apply_kept<R>(
-    rt: &R,
+fn apply_kept(
+    rt: &(impl Print + Edits),
     q: &[u8],
     x: &[u8],
     image: &mut [u8],
@@ -390,24 +358,10 @@ fn apply_kept<R>(
     state: &mut [u8],
     first: &mut [i64],
     second: &mut [i64],
-) -> io::Result<Ending>
-where
-    R: Print + Errors + Env + Files + RandomSource + AllocGlobal,
-    R::File: AsFd,
-{
-    let mut answers = [NO_REQUEST; ANSWERS];
+) -> io::Result<Ending> {
+    let mut noted = [NO_REQUEST; ANSWERS];
     let n = apply_all(
-        rt,
-        q,
-        x,
-        image,
-        base,
-        t,
-        raw,
-        state,
-        first,
-        second,
-        &mut answers,
+        rt, q, x, image, base, t, raw, state, first, second, &mut noted,
     )?;
     if ANSWERS < n {
         return Ok(error_about(
@@ -416,33 +370,19 @@ where
             b"",
         ));
     }
-    print_kept(
-        rt,
-        x,
-        image,
-        base,
-        t,
-        raw,
-        state,
-        first,
-        second,
-        front(&answers, n),
-    )
+    let answers = front(&noted, n);
+    print_kept(rt, x, image, base, t, raw, state, first, second, answers)
 }
 
 // Makes the list that is kept over the requests, which are all well formed.
-fn apply_requests<R>(
-    rt: &R,
+fn apply_requests(
+    rt: &(impl Print + Edits),
     q: &[u8],
     x: &[u8],
     image: &mut [u8],
     base: u32,
     t: &[u64],
-) -> io::Result<Ending>
-where
-    R: Print + Errors + Env + Files + RandomSource + AllocGlobal,
-    R::File: AsFd,
-{
+) -> io::Result<Ending> {
     let mut raw = [0i64; LINES];
     let mut state = [0u8; LINES];
     let mut first = [0i64; LINES];
@@ -474,11 +414,13 @@ where
 }
 
 // Reads the request file and carries it out; where a line is no request nothing at all is written.
-pub fn apply<R>(rt: &R, x: &[u8], image: &mut [u8], base: u32, t: &[u64]) -> io::Result<Ending>
-where
-    R: Print + Errors + Env + Files + RandomSource + AllocGlobal,
-    R::File: AsFd,
-{
+pub fn apply(
+    rt: &(impl Print + Edits),
+    x: &[u8],
+    image: &mut [u8],
+    base: u32,
+    t: &[u64],
+) -> io::Result<Ending> {
     let mut buffer = [0u8; TEXT_ROOM];
     match read_file(rt, REQUESTS, &mut buffer) {
         FileRead::Bytes(n) => {

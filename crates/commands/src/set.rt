@@ -1,10 +1,10 @@
 // The command `set`: one write.
 use console::arguments::{INDEX, NAME, PART, VALUE, WAY};
 use console::called::word_at;
-use console::ending::{Ending, Errors};
+use console::ending::Ending;
 use console::message::refused;
 use console::sizes::{LINES, WORD_ROOM, front};
-use files::replace::is_kept;
+use files::replace::{Edits, is_kept};
 use list::make::make_list;
 use look::call::CallAnswer;
 use look::check::group_of;
@@ -12,13 +12,20 @@ use printing::lines::print_afresh;
 use requests::limits::refused_write;
 use requests::requested::{ElementTyped, NO_WAY, Way, element_named, error_of, way_of, write_one};
 use std::io;
-use std::os::fd::AsFd;
-use std::random::RandomSource;
-use std::rt::{Env, Files};
+
+// A write: the element, how its value is written, and the value.
+#[derive(Clone, Copy)]
+struct Asked<'a> {
+    object: u32,
+    part: u8,
+    index: u32,
+    is_raw: bool,
+    value: &'a [u8],
+}
 
 // Replaces the image's file, and writes the lines that were worked out afresh.
-fn print_set<R>(
-    rt: &R,
+fn print_set(
+    rt: &(impl Print + Edits),
     x: &[u8],
     image: &[u8],
     base: u32,
@@ -29,11 +36,7 @@ fn print_set<R>(
     second: &[i64],
     g: u16,
     index: u32,
-) -> io::Result<Ending>
-where
-    R: Print + Errors + Env + Files + RandomSource + AllocGlobal,
-    R::File: AsFd,
-{
+) -> io::Result<Ending> {
     if is_kept(rt, image) {
         return print_afresh(rt, x, image, base, t, raw, state, first, second, g, index);
     }
@@ -41,8 +44,8 @@ where
 }
 
 // Writes to the kept list and to the image, and goes on with the image's file and the lines.
-fn set_kept<R>(
-    rt: &R,
+fn set_kept(
+    rt: &(impl Print + Edits),
     x: &[u8],
     image: &mut [u8],
     base: u32,
@@ -51,53 +54,26 @@ fn set_kept<R>(
     state: &mut [u8],
     first: &mut [i64],
     second: &mut [i64],
-    object: u32,
-    part: u8,
-    index: u32,
-    is_raw: bool,
-    value: &[u8],
-) -> io::Result<Ending>
-where
-    R: Print + Errors + Env + Files + RandomSource + AllocGlobal,
-    R::File: AsFd,
-{
+    q: Asked<'_>,
+) -> io::Result<Ending> {
+    let g = group_of(q.object, q.part);
     match write_one(
-        x, image, base, t, raw, state, first, second, object, part, index, is_raw, value,
+        x, image, base, t, raw, state, first, second, q.object, q.part, q.index, q.is_raw, q.value,
     ) {
-        CallAnswer::Done => print_set(
-            rt,
-            x,
-            image,
-            base,
-            t,
-            raw,
-            state,
-            first,
-            second,
-            group_of(object, part),
-            index,
-        ),
-        CallAnswer::Refused { no } => refused_write(rt, t, group_of(object, part), value, no),
+        CallAnswer::Done => print_set(rt, x, image, base, t, raw, state, first, second, g, q.index),
+        CallAnswer::Refused { no } => refused_write(rt, t, g, q.value, no),
     }
 }
 
 // Makes the list that is kept over the write.
-fn set_element<R>(
-    rt: &R,
+fn set_element(
+    rt: &(impl Print + Edits),
     x: &[u8],
     image: &mut [u8],
     base: u32,
     t: &[u64],
-    object: u32,
-    part: u8,
-    index: u32,
-    is_raw: bool,
-    value: &[u8],
-) -> io::Result<Ending>
-where
-    R: Print + Errors + Env + Files + RandomSource + AllocGlobal,
-    R::File: AsFd,
-{
+    q: Asked<'_>,
+) -> io::Result<Ending> {
     let mut raw = [0i64; LINES];
     let mut state = [0u8; LINES];
     let mut first = [0i64; LINES];
@@ -122,19 +98,15 @@ where
             &mut state,
             &mut first,
             &mut second,
-            object,
-            part,
-            index,
-            is_raw,
-            value,
+            q,
         ),
         CallAnswer::Refused { no } => refused(rt, no),
     }
 }
 
 // Takes the way and the value from the arguments.
-fn set_typed<R>(
-    rt: &R,
+fn set_typed(
+    rt: &(impl Print + Edits),
     x: &[u8],
     image: &mut [u8],
     base: u32,
@@ -142,50 +114,34 @@ fn set_typed<R>(
     object: u32,
     part: u8,
     index: u32,
-) -> io::Result<Ending>
-where
-    R: Print + Errors + Env + Files + RandomSource + AllocGlobal,
-    R::File: AsFd,
-{
+) -> io::Result<Ending> {
     let mut word = [0u8; WORD_ROOM];
     let mut value = [0u8; WORD_ROOM];
     let n = word_at(rt, WAY, &mut word);
     let k = word_at(rt, VALUE, &mut value);
-    match way_of(front(&word, n)) {
-        Way::Raw => set_element(
-            rt,
-            x,
-            image,
-            base,
-            t,
-            object,
-            part,
-            index,
-            true,
-            front(&value, k),
-        ),
-        Way::Physical => set_element(
-            rt,
-            x,
-            image,
-            base,
-            t,
-            object,
-            part,
-            index,
-            false,
-            front(&value, k),
-        ),
-        Way::Neither => Ok(error_of(rt, NO_WAY, b"", b"", front(&word, n))),
-    }
+    let is_raw = match way_of(front(&word, n)) {
+        Way::Raw => true,
+        Way::Physical => false,
+        Way::Neither => return Ok(error_of(rt, NO_WAY, b"", b"", front(&word, n))),
+    };
+    let q = Asked {
+        object,
+        part,
+        index,
+        is_raw,
+        value: front(&value, k),
+    };
+    set_element(rt, x, image, base, t, q)
 }
 
 // Writes the element that the arguments name.
-pub fn set<R>(rt: &R, x: &[u8], image: &mut [u8], base: u32, t: &[u64]) -> io::Result<Ending>
-where
-    R: Print + Errors + Env + Files + RandomSource + AllocGlobal,
-    R::File: AsFd,
-{
+pub fn set(
+    rt: &(impl Print + Edits),
+    x: &[u8],
+    image: &mut [u8],
+    base: u32,
+    t: &[u64],
+) -> io::Result<Ending> {
     let mut name = [0u8; WORD_ROOM];
     let mut letter = [0u8; WORD_ROOM];
     let mut number = [0u8; WORD_ROOM];

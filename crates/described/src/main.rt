@@ -5,7 +5,8 @@
 use engine::read::read;
 use grammar::state::ReadAnswer;
 use grammar::view::{AXIS, ENTRY, LAYOUT, METHOD, OBJECT, TABLE, count_of};
-use libc::{STDIN_FILENO, STDOUT_FILENO};
+use std::io;
+use std::io::Read;
 
 // The most bytes of all descriptions together.
 const TEXT_BYTES: usize = 40960;
@@ -22,41 +23,41 @@ const EQUALS: u8 = 61;
 const PART_BYTES: usize = 6;
 
 // Writes a word and a number.
-fn print_words(word: &[u8], n: u64) {
-    io::write_all(STDOUT_FILENO, word);
-    io::print_decimal(STDOUT_FILENO, n);
+fn print_words(rt: &impl Print, word: &str, n: u64) -> io::Result<()> {
+    print!(rt; "{word}{n}")
 }
 
 // Writes a word and how many records section j has.
-fn print_count(word: &[u8], t: &[u64], j: u8) {
-    print_words(word, count_of(t, j) as u64);
+fn print_count(rt: &impl Print, word: &str, t: &[u64], j: u8) -> io::Result<()> {
+    print_words(rt, word, count_of(t, j) as u64)
+}
+
+// Writes a refusal.
+fn print_refusal(rt: &impl Print, no: u8, place: usize) -> io::Result<()> {
+    print_words(rt, " refused ", no as u64)?;
+    print_words(rt, " at ", place as u64)
 }
 
 // Writes what an accepted description has.
-fn print_accepted(t: &[u64]) {
-    io::write_all(STDOUT_FILENO, b" accepted");
-    print_count(b" methods ", t, METHOD);
-    print_count(b" tables ", t, TABLE);
-    print_count(b" entries ", t, ENTRY);
-    print_count(b" layouts ", t, LAYOUT);
-    print_count(b" objects ", t, OBJECT);
-    print_count(b" axes ", t, AXIS);
+fn print_accepted(rt: &impl Print, t: &[u64]) -> io::Result<()> {
+    rt.print(" accepted")?;
+    print_count(rt, " methods ", t, METHOD)?;
+    print_count(rt, " tables ", t, TABLE)?;
+    print_count(rt, " entries ", t, ENTRY)?;
+    print_count(rt, " layouts ", t, LAYOUT)?;
+    print_count(rt, " objects ", t, OBJECT)?;
+    print_count(rt, " axes ", t, AXIS)
 }
 
 // Reads description n and writes its line.
-fn print_described(x: &[u8], n: usize) {
+fn print_described(rt: &impl Print, x: &[u8], n: usize) -> io::Result<()> {
     let mut t = [0u64; CELLS];
-    io::print_decimal(STDOUT_FILENO, n as u64);
+    rt.print(n)?;
     match read(x, &mut t) {
-        ReadAnswer::Accepted => {
-            print_accepted(&t);
-        }
-        ReadAnswer::Refused { no, place } => {
-            print_words(b" refused ", no as u64);
-            print_words(b" at ", place as u64);
-        }
+        ReadAnswer::Accepted => print_accepted(rt, &t)?,
+        ReadAnswer::Refused { no, place } => print_refusal(rt, no, place)?,
     }
-    io::write_all(STDOUT_FILENO, b"\n");
+    rt.print("\n")
 }
 
 // Whether a parting line, with a line end before and after it, stands at a place.
@@ -87,28 +88,29 @@ fn part_end(s: &[u8], from: usize) -> usize {
 }
 
 // Writes the lines of all descriptions. A parting line never lies before the place it is sought from, so the first two tests never stop the loop.
-fn print_all(s: &[u8]) {
+fn print_all(rt: &impl Print, s: &[u8]) -> io::Result<()> {
     let mut from: usize = 0;
     let mut n: usize = 1;
     while from < s.len() {
         let end = part_end(s, from);
         if end < from {
-            return;
+            return Ok(());
         }
         if end > s.len() {
-            return;
+            return Ok(());
         }
-        print_described(&s[from..end], n);
+        print_described(rt, &s[from..end], n)?;
         if s.len() - end < PART_BYTES {
-            return;
+            return Ok(());
         }
         from = end + PART_BYTES;
         n = n + 1;
     }
+    Ok(())
 }
 
-fn main() {
-    let mut buf = [0u8; TEXT_BYTES];
-    let n = io::read_full(STDIN_FILENO, &mut buf);
-    print_all(&buf[..n]);
+fn main(rt: HostRuntime) -> io::Result<()> {
+    let mut text = Vec::new(rt.alloc());
+    rt.reader().take(TEXT_BYTES as u64).read_to_end(&mut text)?;
+    print_all(&rt, text.as_slice())
 }

@@ -33,6 +33,11 @@ const MODE_BITS: u32 = 0o7777;
 // The mode of a new file that is not whole yet: its owner's alone.
 const OWN_MODE: u32 = 0o600;
 
+// What replacing an image's file takes of the system: files, the arguments, chance, memory, and where errors are said.
+pub trait Edits: Files<File = File> + Env + RandomSource + AllocGlobal + Errors {}
+
+impl<R: Files<File = File> + Env + RandomSource + AllocGlobal + Errors> Edits for R {}
+
 // What became of it, or what stood in the way.
 #[derive(Clone, Copy)]
 enum Replaced {
@@ -84,11 +89,13 @@ fn is_removed(rt: &impl Files, new: &[u8]) -> bool {
 }
 
 // Writes the new file and gives it the image's name; removes it where that fails. Where it is gone, another program has taken it away.
-fn renamed<R>(rt: &R, path: &[u8], new: &[u8], status: Status, image: &[u8]) -> Replaced
-where
-    R: Files,
-    R::File: AsFd,
-{
+fn renamed(
+    rt: &impl Files<File = File>,
+    path: &[u8],
+    new: &[u8],
+    status: Status,
+    image: &[u8],
+) -> Replaced {
     let Ok(file) = create(rt, new) else {
         return Replaced::Beside;
     };
@@ -103,11 +110,13 @@ where
 
 // Replaces the file once the figures are noted, and takes the note away, unless another program has taken this one for ended: then it is
 // the other's.
-fn replaced_noted<R>(rt: &R, path: &[u8], figures: &[u8], status: Status, image: &[u8]) -> Replaced
-where
-    R: Files,
-    R::File: AsFd,
-{
+fn replaced_noted(
+    rt: &impl Files<File = File>,
+    path: &[u8],
+    figures: &[u8],
+    status: Status,
+    image: &[u8],
+) -> Replaced {
     let mut new = [0u8; WORD_ROOM];
     let k = put_new(path, figures, &mut new);
     let r = renamed(rt, path, front(&new, k), status, image);
@@ -121,11 +130,12 @@ where
 }
 
 // Notes the figures of the new file, and goes on with it.
-fn replaced_cleared<R>(rt: &R, path: &[u8], status: Status, image: &[u8]) -> Replaced
-where
-    R: Files + RandomSource,
-    R::File: AsFd,
-{
+fn replaced_cleared(
+    rt: &(impl Files<File = File> + RandomSource),
+    path: &[u8],
+    status: Status,
+    image: &[u8],
+) -> Replaced {
     let mut figures = [0u8; FIGURES];
     put_chance(rt, &mut figures);
     match make_note(rt, path, &figures) {
@@ -137,11 +147,12 @@ where
 }
 
 // Replaces a file that may be replaced: what an ended run left is removed, then the new file is noted, written and renamed.
-fn replaced_beside<R>(rt: &R, path: &[u8], status: Status, image: &[u8]) -> Replaced
-where
-    R: Files + RandomSource,
-    R::File: AsFd,
-{
+fn replaced_beside(
+    rt: &(impl Files<File = File> + RandomSource),
+    path: &[u8],
+    status: Status,
+    image: &[u8],
+) -> Replaced {
     match is_cleared(rt, path) {
         Ok(true) => replaced_cleared(rt, path, status, image),
         Ok(false) => Replaced::Note,
@@ -188,11 +199,11 @@ fn open_update<R: Files>(rt: &R, path: &[u8]) -> io::Result<R::File> {
 }
 
 // Replaces a file that is no link, where it and its folder may be written.
-fn replaced_file<R>(rt: &R, path: &[u8], image: &[u8]) -> Replaced
-where
-    R: Files + RandomSource,
-    R::File: AsFd,
-{
+fn replaced_file(
+    rt: &(impl Files<File = File> + RandomSource),
+    path: &[u8],
+    image: &[u8],
+) -> Replaced {
     let Ok(status) = status_closed(open_update(rt, path)) else {
         return Replaced::Image;
     };
@@ -209,11 +220,11 @@ where
 }
 
 // Replaces the file that a path stands for.
-fn replaced_at<R>(rt: &R, path: &[u8], image: &[u8]) -> Replaced
-where
-    R: Files + RandomSource + AllocGlobal,
-    R::File: AsFd,
-{
+fn replaced_at(
+    rt: &(impl Files<File = File> + RandomSource + AllocGlobal),
+    path: &[u8],
+    image: &[u8],
+) -> Replaced {
     let mut file = [0u8; WORD_ROOM];
     match resolve(rt, path, &mut file) {
         Ok(Resolved::At(n)) => replaced_file(rt, front(&file, n), image),
@@ -276,11 +287,7 @@ fn is_done(rt: &impl Errors, r: Replaced, path: &[u8]) -> bool {
 }
 
 // Replaces the image's file; an error is said, and then the file is as it was.
-pub fn is_kept<R>(rt: &R, image: &[u8]) -> bool
-where
-    R: Files + Env + RandomSource + AllocGlobal + Errors,
-    R::File: AsFd,
-{
+pub fn is_kept(rt: &impl Edits, image: &[u8]) -> bool {
     let mut path = [0u8; WORD_ROOM];
     let n = word_at(rt, IMAGE, &mut path);
     let r = replaced_at(rt, front(&path, n), image);

@@ -5,20 +5,14 @@ mod run;
 
 use crate::run::run;
 use console::arguments::{Command, command_typed, has_words};
-use console::ending::{Ending, Errors, end};
+use console::ending::{Ending, end};
 use console::usage::{no_command, print_usage, wrong_words};
+use files::replace::Edits;
 use std::io;
-use std::os::fd::AsFd;
 use std::process::ExitCode;
-use std::random::RandomSource;
-use std::rt::{Env, Files};
 
 // Runs a command that has the words it needs.
-fn run_whole<R>(rt: &R, command: Command) -> io::Result<Ending>
-where
-    R: Print + Errors + Env + Files + RandomSource + AllocGlobal,
-    R::File: AsFd,
-{
+fn run_whole(rt: &(impl Print + Edits), command: Command) -> io::Result<Ending> {
     if has_words(rt, command) {
         return run(rt, command);
     }
@@ -26,11 +20,7 @@ where
 }
 
 // Runs what the program was called with.
-fn run_typed<R>(rt: &R) -> io::Result<Ending>
-where
-    R: Print + Errors + Env + Files + RandomSource + AllocGlobal,
-    R::File: AsFd,
-{
+fn run_typed(rt: &(impl Print + Edits)) -> io::Result<Ending> {
     let command = command_typed(rt);
     match command {
         Command::Help => print_usage(rt),

@@ -11,29 +11,24 @@ use console::sizes::{
     IMAGE_BYTES, IMAGE_ROOM, TABLE_CELLS, TEXT_BYTES, TEXT_ROOM, WORD_ROOM, WORK_CELLS, front,
 };
 use files::file::{FileRead, read_file};
+use files::replace::Edits;
 use load::{LoadAnswer, load};
 use std::io;
-use std::os::fd::AsFd;
-use std::random::RandomSource;
-use std::rt::{Env, Files};
+use std::rt::Env;
 use tables::setting::Setting;
 
 // "base plus image above 2^32"
 const SIZES: u8 = 20;
 
 // Carries out the command on the image and the tables of its description.
-fn run_command<R>(
-    rt: &R,
+fn run_command(
+    rt: &(impl Print + Edits),
     command: Command,
     x: &[u8],
     image: &mut [u8],
     base: u32,
     t: &[u64],
-) -> io::Result<Ending>
-where
-    R: Print + Errors + Env + Files + RandomSource + AllocGlobal,
-    R::File: AsFd,
-{
+) -> io::Result<Ending> {
     match command {
         Command::List => list(rt, x, image, base, t),
         Command::Get => get(rt, x, image, base, t),
@@ -45,17 +40,13 @@ where
 }
 
 // Loads the description, and carries out the command on the image.
-fn run_loaded<R>(
-    rt: &R,
+fn run_loaded(
+    rt: &(impl Print + Edits),
     command: Command,
     x: &[u8],
     image: &mut [u8],
     s: Setting,
-) -> io::Result<Ending>
-where
-    R: Print + Errors + Env + Files + RandomSource + AllocGlobal,
-    R::File: AsFd,
-{
+) -> io::Result<Ending> {
     let mut t = [0u64; TABLE_CELLS];
     let mut work = [0u64; WORK_CELLS];
     match load(x, image, s, &mut t, &mut work) {
@@ -65,18 +56,14 @@ where
 }
 
 // The image is the first m bytes of its buffer.
-fn run_image<R>(
-    rt: &R,
+fn run_image(
+    rt: &(impl Print + Edits),
     command: Command,
     x: &[u8],
     image: &mut [u8],
     m: usize,
     s: Setting,
-) -> io::Result<Ending>
-where
-    R: Print + Errors + Env + Files + RandomSource + AllocGlobal,
-    R::File: AsFd,
-{
+) -> io::Result<Ending> {
     if IMAGE_BYTES < m {
         return refused_size(rt, b"the image", IMAGE_BYTES);
     }
@@ -87,11 +74,12 @@ where
 }
 
 // The image is read beside the description.
-fn run_text<R>(rt: &R, command: Command, x: &[u8], s: Setting) -> io::Result<Ending>
-where
-    R: Print + Errors + Env + Files + RandomSource + AllocGlobal,
-    R::File: AsFd,
-{
+fn run_text(
+    rt: &(impl Print + Edits),
+    command: Command,
+    x: &[u8],
+    s: Setting,
+) -> io::Result<Ending> {
     let mut image = [0u8; IMAGE_ROOM];
     match read_file(rt, IMAGE, &mut image) {
         FileRead::Bytes(m) => run_image(rt, command, x, &mut image, m, s),
@@ -100,11 +88,7 @@ where
 }
 
 // The description is read, and then the image.
-fn run_from<R>(rt: &R, command: Command, s: Setting) -> io::Result<Ending>
-where
-    R: Print + Errors + Env + Files + RandomSource + AllocGlobal,
-    R::File: AsFd,
-{
+fn run_from(rt: &(impl Print + Edits), command: Command, s: Setting) -> io::Result<Ending> {
     let mut text = [0u8; TEXT_ROOM];
     match read_file(rt, DESCRIPTION, &mut text) {
         FileRead::Bytes(n) => {
@@ -129,11 +113,7 @@ fn no_base(rt: &(impl Env + Errors)) -> Ending {
 }
 
 // Takes the base address and the edition, and goes on with the files.
-pub fn run<R>(rt: &R, command: Command) -> io::Result<Ending>
-where
-    R: Print + Errors + Env + Files + RandomSource + AllocGlobal,
-    R::File: AsFd,
-{
+pub fn run(rt: &(impl Print + Edits), command: Command) -> io::Result<Ending> {
     match base_typed(rt) {
         BaseTyped::Address(base) => run_from(
             rt,

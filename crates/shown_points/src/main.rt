@@ -12,12 +12,12 @@ use convert::method::{Coefficients, MethodAnswer, identical, linear, rat_func};
 use decimals::decimal_of;
 use fraction::fraction::fraction_of;
 use judge::judge::judge_object;
-use libc::STDOUT_FILENO;
 use number::decimal::{Decimal, DecimalAnswer};
 use place::judge::Judged;
 use place::order::{Aligns, Entry, Layout};
 use place::rules::{Axis, Need};
 use place::walk::Ground;
+use std::io;
 
 // The decimal that a text writes, 0 where it writes none.
 fn decimal(s: &[u8]) -> Decimal {
@@ -32,42 +32,36 @@ fn decimal(s: &[u8]) -> Decimal {
     d
 }
 
-// Prints a text.
-fn print(s: &[u8]) {
-    io::write_all(STDOUT_FILENO, s);
-}
-
 // Prints a whole number.
-fn print_whole(n: i64) {
+fn print_whole(rt: &impl Print, n: i64) -> io::Result<()> {
     if n < 0 {
-        print(b"-");
+        rt.print("-")?;
     }
-    io::print_decimal(STDOUT_FILENO, size(n));
+    rt.print(size(n))
 }
 
 // Prints a refusal's number.
-fn print_refusal(no: u8) {
-    print(b" refused ");
-    io::print_decimal(STDOUT_FILENO, no as u64);
+fn print_refusal(rt: &impl Print, no: u8) -> io::Result<()> {
+    print!(rt; " refused {no}")
 }
 
 // Prints a fraction, or `-` for none.
-fn print_physical(p: Physical) {
-    print(b" ");
+fn print_physical(rt: &impl Print, p: Physical) -> io::Result<()> {
+    rt.print(" ")?;
     if p.state == NUMBER {
-        print_whole(p.first);
-        print(b"/");
-        print_whole(p.second);
+        print_whole(rt, p.first)?;
+        rt.print("/")?;
+        print_whole(rt, p.second)
     } else {
-        print(b"-");
+        rt.print("-")
     }
 }
 
 // Prints what a raw number shows by a conversion.
-fn shown(answer: MethodAnswer, raw: i64) {
+fn shown(rt: &impl Print, answer: MethodAnswer, raw: i64) -> io::Result<()> {
     match answer {
-        MethodAnswer::Whole(k) => print_physical(fraction_of(k, raw)),
-        MethodAnswer::Refused { no } => print_refusal(no),
+        MethodAnswer::Whole(k) => print_physical(rt, fraction_of(k, raw)),
+        MethodAnswer::Refused { no } => print_refusal(rt, no),
     }
 }
 
@@ -80,7 +74,13 @@ fn coefficients(answer: MethodAnswer) -> Coefficients {
 }
 
 // Prints which raw number an asked value stores by an edition.
-fn stored(edition: u32, k: Coefficients, kind: u64, asked: &[u8]) {
+fn stored(
+    rt: &impl Print,
+    edition: u32,
+    k: Coefficients,
+    kind: u64,
+    asked: &[u8],
+) -> io::Result<()> {
     let answer = asked_raw(
         edition as u64,
         asked,
@@ -92,22 +92,26 @@ fn stored(edition: u32, k: Coefficients, kind: u64, asked: &[u8]) {
     );
     match answer {
         RawAnswer::Raw(raw) => {
-            print(b" ");
-            print_whole(raw);
+            rt.print(" ")?;
+            print_whole(rt, raw)
         }
-        RawAnswer::Refused { no } => print_refusal(no),
+        RawAnswer::Refused { no } => print_refusal(rt, no),
     }
 }
 
+// Prints an address or a word in hex.
+fn print_address(rt: &impl Print, at: u64) -> io::Result<()> {
+    print!(rt; " 0x{at:04x}")
+}
+
 // Prints the word that a raw write leaves of a word, given by its high and its low byte.
-fn left(high: u8, low: u8, mask: u64, raw: i64) {
+fn left(rt: &impl Print, high: u8, low: u8, mask: u64, raw: i64) -> io::Result<()> {
     let mut image = [high, low];
     if fits_raw(UWORD, mask, raw) {
         write_raw(&mut image, 0, UWORD, true, mask, raw);
-        print(b" 0x");
-        io::print_hex(STDOUT_FILENO, size(read_raw(&image, 0, UWORD, true, 0)), 4);
+        print_address(rt, size(read_raw(&image, 0, UWORD, true, 0)))
     } else {
-        print_refusal(convert::asked::NO_FIT);
+        print_refusal(rt, convert::asked::NO_FIT)
     }
 }
 
@@ -161,14 +165,8 @@ fn curve() -> Need {
     }
 }
 
-// Prints an address.
-fn print_address(at: u64) {
-    print(b" 0x");
-    io::print_hex(STDOUT_FILENO, at, 4);
-}
-
 // Prints where P10's CURVE has its axis and its values in an image from 0x1000 on, and how many points.
-fn stands(image: &[u8]) {
+fn stands(rt: &impl Print, image: &[u8]) -> io::Result<()> {
     let layout = Layout {
         values: part(3, UBYTE),
         x: part(2, UWORD),
@@ -189,64 +187,70 @@ fn stands(image: &[u8]) {
     let answer = judge_object(image, ground, curve(), layout, 0);
     match answer {
         Judged::Stands(s) => {
-            print_address(s.places.x);
-            print_address(s.places.values);
-            print(b" ");
-            io::print_decimal(STDOUT_FILENO, s.places.cx as u64);
+            print_address(rt, s.places.x)?;
+            print_address(rt, s.places.values)?;
+            rt.print(" ")?;
+            rt.print(s.places.cx)
         }
-        Judged::Refused { no } => print_refusal(no),
+        Judged::Refused { no } => print_refusal(rt, no),
     }
 }
 
 // P1 to P3: a slope and an offset.
-fn show_linear() {
-    print(b"P1");
-    shown(first(), 11800);
-    print(b"\nP2");
-    shown(linear(decimal(b"0.001"), decimal(b"0")), 11800);
-    print(b"\nP3");
-    shown(linear(decimal(b"0.5"), decimal(b"-40")), 255);
+fn show_linear(rt: &impl Print) -> io::Result<()> {
+    rt.print("P1")?;
+    shown(rt, first(), 11800)?;
+    rt.print("\nP2")?;
+    shown(rt, linear(decimal(b"0.001"), decimal(b"0")), 11800)?;
+    rt.print("\nP3")?;
+    shown(rt, linear(decimal(b"0.5"), decimal(b"-40")), 255)
 }
 
-// P4 to P6: a divisor, a method that is refused, and the nearest raw number.
-fn show_nearest() {
-    print(b"\nP4");
-    shown(fourth(), 4);
-    shown(fourth(), 0);
-    print(b"\nP5");
+// P4 and P5: a divisor, and a method that is refused.
+fn show_divisor(rt: &impl Print) -> io::Result<()> {
+    rt.print("\nP4")?;
+    shown(rt, fourth(), 4)?;
+    shown(rt, fourth(), 0)?;
+    rt.print("\nP5")?;
     shown(
+        rt,
         rat_func(decimal(b"2"), decimal(b"0"), decimal(b"1"), decimal(b"0")),
         1,
-    );
-    print(b"\nP6");
-    stored(EDITION_ONE, coefficients(first()), UWORD, b"11.8005");
-    stored(EDITION_ONE, coefficients(first()), SWORD, b"-0.0005");
-    print(b", in edition 2");
-    stored(EDITION_TWO, coefficients(first()), UWORD, b"11.8005");
-    stored(EDITION_TWO, coefficients(first()), SWORD, b"-0.0005");
+    )
+}
+
+// P6: the nearest raw number.
+fn show_nearest(rt: &impl Print) -> io::Result<()> {
+    rt.print("\nP6")?;
+    stored(rt, EDITION_ONE, coefficients(first()), UWORD, b"11.8005")?;
+    stored(rt, EDITION_ONE, coefficients(first()), SWORD, b"-0.0005")?;
+    rt.print(", in edition 2")?;
+    stored(rt, EDITION_TWO, coefficients(first()), UWORD, b"11.8005")?;
+    stored(rt, EDITION_TWO, coefficients(first()), SWORD, b"-0.0005")
 }
 
 // P7 to P9: masks and byte orders.
-fn show_bytes() {
-    print(b"\nP7 ");
-    print_whole(read_raw(b"\x12\xA7", 0, UWORD, true, 0x00F0));
-    left(0x12, 0xA7, 0x00F0, 3);
-    left(0x12, 0xA7, 0x00F0, 16);
-    print(b"\nP8");
-    left(0x00, 0x00, 0x0005, 5);
-    left(0x00, 0x00, 0x0005, 2);
-    print(b"\nP9 ");
-    print_whole(read_raw(b"\x2E\x18", 0, UWORD, true, 0));
-    print(b" ");
-    print_whole(read_raw(b"\x18\x2E", 0, UWORD, false, 0));
+fn show_bytes(rt: &impl Print) -> io::Result<()> {
+    rt.print("\nP7 ")?;
+    print_whole(rt, read_raw(b"\x12\xA7", 0, UWORD, true, 0x00F0))?;
+    left(rt, 0x12, 0xA7, 0x00F0, 3)?;
+    left(rt, 0x12, 0xA7, 0x00F0, 16)?;
+    rt.print("\nP8")?;
+    left(rt, 0x00, 0x00, 0x0005, 5)?;
+    left(rt, 0x00, 0x00, 0x0005, 2)?;
+    rt.print("\nP9 ")?;
+    print_whole(rt, read_raw(b"\x2E\x18", 0, UWORD, true, 0))?;
+    rt.print(" ")?;
+    print_whole(rt, read_raw(b"\x18\x2E", 0, UWORD, false, 0))
 }
 
-fn main() {
-    show_linear();
-    show_nearest();
-    show_bytes();
-    print(b"\nP10");
-    stands(b"\x00\x03\x00\x00\x00\x00\x00\x00\x00\x00\x00");
-    stands(b"\x00\x03\x00\x00\x00\x00\x00\x00\x00\x00");
-    print(b"\n");
+fn main(rt: HostRuntime) -> io::Result<()> {
+    show_linear(&rt)?;
+    show_divisor(&rt)?;
+    show_nearest(&rt)?;
+    show_bytes(&rt)?;
+    rt.print("\nP10")?;
+    stands(&rt, b"\x00\x03\x00\x00\x00\x00\x00\x00\x00\x00\x00")?;
+    stands(&rt, b"\x00\x03\x00\x00\x00\x00\x00\x00\x00\x00")?;
+    rt.print("\n")
 }

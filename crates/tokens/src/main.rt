@@ -2,7 +2,8 @@
 // A block A2ML or IF_DATA is passed whole, and is one line. It stops at the text's end or at the first refusal.
 #![tactic(auto)]
 
-use libc::{STDIN_FILENO, STDOUT_FILENO};
+use std::io;
+use std::io::Read;
 use text::bytes::same_part;
 use text::cursor::{Cursor, Reach, Token};
 use text::skip::is_a2ml;
@@ -21,102 +22,115 @@ enum Next {
 }
 
 // Writes a number after a blank.
-fn print_number(n: usize) {
-    io::write_all(STDOUT_FILENO, b" ");
-    io::print_decimal(STDOUT_FILENO, n as u64);
+fn print_number(rt: &impl Print, n: usize) -> io::Result<()> {
+    print!(rt; " {n}")
 }
 
 // Writes a word and two numbers.
-fn print_words(word: &[u8], first: usize, second: usize) {
-    io::write_all(STDOUT_FILENO, word);
-    print_number(first);
-    print_number(second);
+fn print_words(rt: &impl Print, word: &str, first: usize, second: usize) -> io::Result<()> {
+    rt.print(word)?;
+    print_number(rt, first)?;
+    print_number(rt, second)
 }
 
 // Writes the line of a token from start up to the cursor past it, and answers that cursor.
-fn print_token(kind: &[u8], s: &[u8], start: usize, next: Cursor) -> Next {
+fn print_token(
+    rt: &impl Print,
+    kind: &str,
+    s: &[u8],
+    start: usize,
+    next: Cursor,
+) -> io::Result<Next> {
     let end = next.at;
-    print_words(kind, start, end);
+    print_words(rt, kind, start, end)?;
     if start <= end {
         if end <= s.len() {
-            io::write_all(STDOUT_FILENO, b" ");
-            io::write_all(STDOUT_FILENO, &s[start..end]);
+            rt.print(" ")?;
+            rt.write_all(&s[start..end])?;
         }
     }
-    io::write_all(STDOUT_FILENO, b"\n");
-    Next::On(next)
+    rt.print("\n")?;
+    Ok(Next::On(next))
 }
 
 // Writes the line of a refusal.
-fn print_refusal(no: u8, place: usize) -> Next {
-    print_words(b"refused", no as usize, place);
-    io::write_all(STDOUT_FILENO, b"\n");
-    Next::Stop
+fn print_refusal(rt: &impl Print, no: u8, place: usize) -> io::Result<Next> {
+    print_words(rt, "refused", no as usize, place)?;
+    rt.print("\n")?;
+    Ok(Next::Stop)
 }
 
 // Writes the line of a block that is passed whole, from its `/begin`; its tag stands from `from` up to the cursor.
-fn print_block(s: &[u8], begin: usize, from: usize, to: Cursor) -> Next {
+fn print_block(
+    rt: &impl Print,
+    s: &[u8],
+    begin: usize,
+    from: usize,
+    to: Cursor,
+) -> io::Result<Next> {
     match to.skip_block(s, from, LEVELS_LEFT) {
         Reach::To(past) => {
-            print_words(b"skipped", begin, past.at);
-            io::write_all(STDOUT_FILENO, b"\n");
-            Next::On(past)
+            print_words(rt, "skipped", begin, past.at)?;
+            rt.print("\n")?;
+            Ok(Next::On(past))
         }
-        Reach::Refused { no, place } => print_refusal(no, place),
+        Reach::Refused { no, place } => print_refusal(rt, no, place),
     }
 }
 
 // Writes the line of a `/begin`, or of its whole block where A2ML or IF_DATA comes next.
-fn print_begin(s: &[u8], begin: usize, next: Cursor) -> Next {
+fn print_begin(rt: &impl Print, s: &[u8], begin: usize, next: Cursor) -> io::Result<Next> {
     let Token::Name { start, next: to } = next.token(s) else {
-        return print_token(b"begin", s, begin, next);
+        return print_token(rt, "begin", s, begin, next);
     };
     let end = to.at;
     if is_a2ml(s, start, end) | same_part(s, start, end, b"IF_DATA", 0, 7) {
-        return print_block(s, begin, start, to);
+        return print_block(rt, s, begin, start, to);
     }
-    print_token(b"begin", s, begin, next)
+    print_token(rt, "begin", s, begin, next)
+}
+
+// Writes the line of the text's end.
+fn print_finish(rt: &impl Print, place: usize) -> io::Result<Next> {
+    rt.print("finish")?;
+    print_number(rt, place)?;
+    rt.print("\n")?;
+    Ok(Next::Stop)
 }
 
 // Writes the line of the next token.
-fn print_next(s: &[u8], c: Cursor) -> Next {
+fn print_next(rt: &impl Print, s: &[u8], c: Cursor) -> io::Result<Next> {
     match c.token(s) {
-        Token::Name { start, next } => print_token(b"name", s, start, next),
-        Token::Text { start, next } => print_token(b"string", s, start, next),
-        Token::Number { start, next } => print_token(b"number", s, start, next),
-        Token::Begin { start, next } => print_begin(s, start, next),
-        Token::End { start, next } => print_token(b"end", s, start, next),
-        Token::Finish { place } => {
-            io::write_all(STDOUT_FILENO, b"finish");
-            print_number(place);
-            io::write_all(STDOUT_FILENO, b"\n");
-            Next::Stop
-        }
-        Token::Refused { no, place } => print_refusal(no, place),
+        Token::Name { start, next } => print_token(rt, "name", s, start, next),
+        Token::Text { start, next } => print_token(rt, "string", s, start, next),
+        Token::Number { start, next } => print_token(rt, "number", s, start, next),
+        Token::Begin { start, next } => print_begin(rt, s, start, next),
+        Token::End { start, next } => print_token(rt, "end", s, start, next),
+        Token::Finish { place } => print_finish(rt, place),
+        Token::Refused { no, place } => print_refusal(rt, no, place),
     }
 }
 
 // Writes the lines of all tokens. Each token lies ahead of the place it is read from, so the test of that never stops the loop.
-fn print_all(s: &[u8]) {
+fn print_all(rt: &impl Print, s: &[u8]) -> io::Result<()> {
     let mut at: usize = 0;
     while at <= s.len() {
-        match print_next(s, Cursor { at }) {
+        match print_next(rt, s, Cursor { at })? {
             Next::On(c) => {
                 let next = c.at;
                 if next <= at {
-                    return;
+                    return Ok(());
                 }
                 at = next;
             }
-            Next::Stop => {
-                return;
-            }
+            Next::Stop => return Ok(()),
         }
     }
+    Ok(())
 }
 
-fn main() {
-    let mut buf = [0u8; TEXT_BYTES];
-    let n = io::read_full(STDIN_FILENO, &mut buf);
-    print_all(&buf[..n]);
+fn main(rt: HostRuntime) -> io::Result<()> {
+    let mut text = Vec::new(rt.alloc());
+    rt.reader().take(TEXT_BYTES as u64).read_to_end(&mut text)?;
+    print_all(&rt, text.as_slice())
 }

@@ -5,13 +5,14 @@
 
 use cases::{LF, PART_BYTES, SPACE, between, bytes_of, number_at, part_end, place_from};
 use convert::edition::EDITION_ONE;
-use libc::{STDIN_FILENO, STDOUT_FILENO};
 use list::make::make_list;
 use list::write::{write_physical, write_raw};
 use listing::listing::ListingAnswer;
 use listings::whole::listing;
 use load::{LoadAnswer, load};
 use look::call::CallAnswer;
+use std::io;
+use std::io::Read;
 use tables::setting::Setting;
 
 // The most bytes of the input and of the listing, the bytes of the image; how many lines the list has room for.
@@ -51,17 +52,10 @@ fn part_of(s: &[u8]) -> u8 {
 }
 
 // Writes a request's number and its answer.
-fn print_answer(n: usize, r: CallAnswer) {
-    io::print_decimal(STDOUT_FILENO, n as u64);
+fn print_answer(rt: &impl Print, n: usize, r: CallAnswer) -> io::Result<()> {
     match r {
-        CallAnswer::Done => {
-            io::write_all(STDOUT_FILENO, b" ok\n");
-        }
-        CallAnswer::Refused { no } => {
-            io::write_all(STDOUT_FILENO, b" refused ");
-            io::print_decimal(STDOUT_FILENO, no as u64);
-            io::write_all(STDOUT_FILENO, b"\n");
-        }
+        CallAnswer::Done => println!(rt; "{n} ok"),
+        CallAnswer::Refused { no } => println!(rt; "{n} refused {no}"),
     }
 }
 
@@ -130,6 +124,7 @@ fn next(at: usize) -> usize {
 
 // Applies the requests, a line each, and writes each answer.
 fn apply_all(
+    rt: &impl Print,
     q: &[u8],
     x: &[u8],
     image: &mut [u8],
@@ -139,13 +134,13 @@ fn apply_all(
     state: &mut [u8],
     first: &mut [i64],
     second: &mut [i64],
-) {
+) -> io::Result<()> {
     let mut from: usize = 0;
     let mut n: usize = 1;
     while from < q.len() {
         let end = place_from(q, from, LF);
         if end < from {
-            return;
+            return Ok(());
         }
         let r = apply(
             between(q, from, end),
@@ -158,17 +153,19 @@ fn apply_all(
             first,
             second,
         );
-        print_answer(n, r);
+        print_answer(rt, n, r)?;
         if q.len() <= end {
-            return;
+            return Ok(());
         }
         from = end + 1;
         n = n + 1;
     }
+    Ok(())
 }
 
 // Writes the listing of the kept list.
 fn print_listing(
+    rt: &impl Print,
     x: &[u8],
     image: &[u8],
     base: u32,
@@ -177,16 +174,11 @@ fn print_listing(
     state: &[u8],
     first: &[i64],
     second: &[i64],
-) {
+) -> io::Result<()> {
     let mut out = [0u8; OUT_BYTES];
     match listing(x, image, base, t, raw, state, first, second, &mut out) {
-        ListingAnswer::Written(n) => {
-            io::write_all(STDOUT_FILENO, between(&out, 0, n));
-        }
-        ListingAnswer::Refused { no } => {
-            io::print_decimal(STDOUT_FILENO, no as u64);
-            io::write_all(STDOUT_FILENO, b" refused\n");
-        }
+        ListingAnswer::Written(n) => rt.write_all(between(&out, 0, n)),
+        ListingAnswer::Refused { no } => println!(rt; "{no} refused"),
     }
 }
 
@@ -199,18 +191,18 @@ fn hex_digit(n: u8) -> u8 {
 }
 
 // Writes bytes in hex.
-fn print_hex(s: &[u8]) {
+fn print_hex(rt: &impl Print, s: &[u8]) -> io::Result<()> {
     let mut i: usize = 0;
     while i < s.len() {
         let b = s[i];
-        io::write_all(STDOUT_FILENO, &[hex_digit(b / 16), hex_digit(b % 16)]);
+        rt.write_all(&[hex_digit(b / 16), hex_digit(b % 16)])?;
         i = i + 1;
     }
-    io::write_all(STDOUT_FILENO, b"\n");
+    rt.print("\n")
 }
 
 // Makes a list with a column that is too short: 20.
-fn run_short(x: &[u8], image: &[u8], base: u32, t: &[u64]) {
+fn run_short(rt: &impl Print, x: &[u8], image: &[u8], base: u32, t: &[u64]) -> io::Result<()> {
     let mut raw = [0i64; LINES];
     let mut state = [0u8; LINES];
     let mut first = [0i64; LINES];
@@ -218,11 +210,11 @@ fn run_short(x: &[u8], image: &[u8], base: u32, t: &[u64]) {
     let short = make_list(
         x, image, base, t, &mut raw, &mut state, &mut first, &mut one,
     );
-    print_answer(0, short);
+    print_answer(rt, 0, short)
 }
 
 // Makes a list with tables of zeros: 22.
-fn run_damaged(x: &[u8], image: &[u8], base: u32) {
+fn run_damaged(rt: &impl Print, x: &[u8], image: &[u8], base: u32) -> io::Result<()> {
     let mut raw = [0i64; LINES];
     let mut state = [0u8; LINES];
     let mut first = [0i64; LINES];
@@ -238,11 +230,12 @@ fn run_damaged(x: &[u8], image: &[u8], base: u32) {
         &mut first,
         &mut second,
     );
-    print_answer(0, damaged);
+    print_answer(rt, 0, damaged)
 }
 
 // Writes the listing and the image.
 fn print_end(
+    rt: &impl Print,
     x: &[u8],
     image: &[u8],
     base: u32,
@@ -251,13 +244,14 @@ fn print_end(
     state: &[u8],
     first: &[i64],
     second: &[i64],
-) {
-    print_listing(x, image, base, t, raw, state, first, second);
-    print_hex(image);
+) -> io::Result<()> {
+    print_listing(rt, x, image, base, t, raw, state, first, second)?;
+    print_hex(rt, image)
 }
 
 // Writes the listing of the list that was made, applies the requests, and writes listing and image after them.
 fn run_made(
+    rt: &impl Print,
     q: &[u8],
     x: &[u8],
     image: &mut [u8],
@@ -267,14 +261,21 @@ fn run_made(
     state: &mut [u8],
     first: &mut [i64],
     second: &mut [i64],
-) {
-    print_listing(x, image, base, t, raw, state, first, second);
-    apply_all(q, x, image, base, t, raw, state, first, second);
-    print_end(x, image, base, t, raw, state, first, second);
+) -> io::Result<()> {
+    print_listing(rt, x, image, base, t, raw, state, first, second)?;
+    apply_all(rt, q, x, image, base, t, raw, state, first, second)?;
+    print_end(rt, x, image, base, t, raw, state, first, second)
 }
 
 // Makes the list, and goes on with it.
-fn run(q: &[u8], x: &[u8], image: &mut [u8], base: u32, t: &[u64]) {
+fn run(
+    rt: &impl Print,
+    q: &[u8],
+    x: &[u8],
+    image: &mut [u8],
+    base: u32,
+    t: &[u64],
+) -> io::Result<()> {
     let mut raw = [0i64; LINES];
     let mut state = [0u8; LINES];
     let mut first = [0i64; LINES];
@@ -289,8 +290,9 @@ fn run(q: &[u8], x: &[u8], image: &mut [u8], base: u32, t: &[u64]) {
         &mut first,
         &mut second,
     );
-    print_answer(0, made);
+    print_answer(rt, 0, made)?;
     run_made(
+        rt,
         q,
         x,
         image,
@@ -300,20 +302,16 @@ fn run(q: &[u8], x: &[u8], image: &mut [u8], base: u32, t: &[u64]) {
         &mut state,
         &mut first,
         &mut second,
-    );
+    )
 }
 
 // Writes a load's refusal.
-fn print_refusal(no: u8, place: usize) {
-    io::write_all(STDOUT_FILENO, b"refused ");
-    io::print_decimal(STDOUT_FILENO, no as u64);
-    io::write_all(STDOUT_FILENO, b" at ");
-    io::print_decimal(STDOUT_FILENO, place as u64);
-    io::write_all(STDOUT_FILENO, b"\n");
+fn print_refusal(rt: &impl Print, no: u8, place: usize) -> io::Result<()> {
+    println!(rt; "refused {no} at {place}")
 }
 
 // Loads the description and runs the requests that follow it.
-fn run_loaded(q: &[u8], x: &[u8], image: &mut [u8], base: u32) {
+fn run_loaded(rt: &impl Print, q: &[u8], x: &[u8], image: &mut [u8], base: u32) -> io::Result<()> {
     let mut t = [0u64; TABLE_CELLS];
     let mut work = [0u64; WORK_CELLS];
     let s = Setting {
@@ -322,16 +320,16 @@ fn run_loaded(q: &[u8], x: &[u8], image: &mut [u8], base: u32) {
     };
     match load(x, image, s, &mut t, &mut work) {
         LoadAnswer::Accepted => {
-            run_short(x, image, base, &t);
-            run_damaged(x, image, base);
-            run(q, x, image, base, &t);
+            run_short(rt, x, image, base, &t)?;
+            run_damaged(rt, x, image, base)?;
+            run(rt, q, x, image, base, &t)
         }
-        LoadAnswer::Refused { no, place } => print_refusal(no, place),
+        LoadAnswer::Refused { no, place } => print_refusal(rt, no, place),
     }
 }
 
 // Takes the description's first line apart.
-fn run_all(s: &[u8]) {
+fn run_all(rt: &impl Print, s: &[u8]) -> io::Result<()> {
     let part = part_end(s, 0);
     let end = place_from(s, 0, LF);
     let gap = place_from(s, 0, SPACE);
@@ -340,12 +338,13 @@ fn run_all(s: &[u8]) {
     let base = number_at(between(s, 0, gap));
     if part < s.len() {
         let q = between(s, part + PART_BYTES, s.len());
-        run_loaded(q, between(s, next(end), part), &mut image, base);
+        return run_loaded(rt, q, between(s, next(end), part), &mut image, base);
     }
+    Ok(())
 }
 
-fn main() {
-    let mut buf = [0u8; TEXT_BYTES];
-    let n = io::read_full(STDIN_FILENO, &mut buf);
-    run_all(&buf[..n]);
+fn main(rt: HostRuntime) -> io::Result<()> {
+    let mut text = Vec::new(rt.alloc());
+    rt.reader().take(TEXT_BYTES as u64).read_to_end(&mut text)?;
+    run_all(&rt, text.as_slice())
 }

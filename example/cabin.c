@@ -1,6 +1,6 @@
 /* Reads a cabin's battery voltage, moves the warning voltage, and prints the kept list: obarsivel from C.
  *
- *     rt staticlib ffi
+ *     scripts/archive
  *     cc -Iinclude example/cabin.c target/staticlib/libffi.a -o cabin
  *     ./cabin example/cabin.a2l example/cabin.bin
  */

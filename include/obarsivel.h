@@ -1,6 +1,6 @@
 /* obarsivel: the proved reader of descriptions, images and value lists.
  *
- * Link libffi.a (rt staticlib ffi). x86-64, System V calling convention.
+ * Link libffi.a (scripts/archive). x86-64, System V calling convention.
  *
  * The rules are those of docs/RULES.md, by number: each function is the
  * library's call, its answer told as a number (rule 13.1).

@@ -19,7 +19,7 @@ fn main() {
     let archive = folder.join("libffi.a");
     println!("cargo:rerun-if-changed={}", archive.display());
     if !archive.is_file() {
-        eprintln!("{} is missing: build it with `rt staticlib ffi`,", archive.display());
+        eprintln!("{} is missing: build it with `scripts/archive`,", archive.display());
         eprintln!("name its folder in OBARSIVEL_LIB, or build with `--features mock`.");
         std::process::exit(1);
     }

@@ -10,7 +10,7 @@ use files::replace::{Edits, is_kept};
 use lines::field::{field_count, field_of, line_end};
 use list::make::make_list;
 use look::call::CallAnswer;
-use printing::lines::print_listing;
+use printing::printed::print_listing;
 use requests::requested::{
     ElementTyped, NO_FIELDS, NO_WAY, SAID, Way, complain_of, element_named, way_of, write_one,
 };

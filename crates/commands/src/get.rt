@@ -10,7 +10,7 @@ use list::make::make_list;
 use look::call::CallAnswer;
 use look::read::{ReadAnswer, read};
 use places::six::{Six, six_places};
-use printing::lines::is_line_printed;
+use printing::printed::is_line_printed;
 use requests::requested::{ElementTyped, element_named, error_of};
 use std::io;
 use std::rt::Env;

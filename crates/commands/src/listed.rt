@@ -4,7 +4,7 @@ use console::message::refused;
 use console::sizes::LINES;
 use list::make::make_list;
 use look::call::CallAnswer;
-use printing::lines::print_listing;
+use printing::printed::print_listing;
 use std::io;
 
 // Lists an image.

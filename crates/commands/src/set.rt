@@ -8,7 +8,7 @@ use files::replace::{Edits, is_kept};
 use list::make::make_list;
 use look::call::CallAnswer;
 use look::check::group_of;
-use printing::lines::print_afresh;
+use printing::printed::print_afresh;
 use requests::limits::refused_write;
 use requests::requested::{ElementTyped, NO_WAY, Way, element_named, error_of, way_of, write_one};
 use std::io;

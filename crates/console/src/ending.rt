@@ -1,6 +1,7 @@
 // How the program ends, and what it says on the way: answers on standard output, errors on standard error. Who says an answer hands on that
 // it could not be written, so that nothing is written after a word that is lost.
 use std::io;
+use std::io::ErrorKind;
 use std::process::ExitCode;
 
 // The exit status of each ending.
@@ -65,12 +66,19 @@ fn status_of(ending: Ending) -> u8 {
     }
 }
 
+// Says that output was lost, but where a reader has heard enough and left: it knows that it did, and nobody else is told of it.
+fn complain_of_loss(rt: &impl Errors, error: io::Error) {
+    if error.kind() != ErrorKind::BrokenPipe {
+        complain(rt, b"error: the output could not be written\n");
+    }
+}
+
 // Ends the program; output that could not be written is an error.
 pub fn end(rt: &(impl Print + Errors), said: io::Result<Ending>) -> ExitCode {
     match heard(rt, said) {
         Ok(ending) => ExitCode::from(status_of(ending)),
-        Err(_) => {
-            complain(rt, b"error: the output could not be written\n");
+        Err(error) => {
+            complain_of_loss(rt, error);
             ExitCode::from(FAILED)
         }
     }

@@ -1,4 +1,4 @@
 // Lines of the kept list on standard output. Nothing of the reader rests on it.
 #![tactic(auto)]
 
-pub mod lines;
+pub mod printed;

@@ -233,46 +233,29 @@ fn replaced_at(
     }
 }
 
+// What stood in the way, in words before the image's path; none where it was replaced.
+fn obstacle(r: Replaced) -> &'static [u8] {
+    match r {
+        Replaced::Done => b"",
+        Replaced::Links => {
+            b"nothing is written, since there are too many links, or too long ones, at "
+        }
+        Replaced::Image => b"nothing is written, since the image may not be written: ",
+        Replaced::Kind => b"nothing is written, since this is no ordinary file: ",
+        Replaced::Folder => {
+            b"nothing is written, since the folder may not be written that holds "
+        }
+        Replaced::Note => {
+            b"nothing is written, since another file has the name of the note (the image's with .writing after it) beside "
+        }
+        Replaced::Beside => b"nothing is written, since no new file can be made beside ",
+        Replaced::Other => b"nothing is written, since another program writes at the same time: ",
+    }
+}
+
 // Says what stood in the way.
 fn complain_about(rt: &impl Errors, r: Replaced, path: &[u8]) -> Ending {
-    match r {
-        Replaced::Done => Ending::Done,
-        Replaced::Links => error_about(
-            rt,
-            b"nothing is written, since there are too many links, or too long ones, at ",
-            path,
-        ),
-        Replaced::Image => error_about(
-            rt,
-            b"nothing is written, since the image may not be written: ",
-            path,
-        ),
-        Replaced::Kind => error_about(
-            rt,
-            b"nothing is written, since this is no ordinary file: ",
-            path,
-        ),
-        Replaced::Folder => error_about(
-            rt,
-            b"nothing is written, since the folder may not be written that holds ",
-            path,
-        ),
-        Replaced::Note => error_about(
-            rt,
-            b"nothing is written, since another file has the name of the note (the image's with .writing after it) beside ",
-            path,
-        ),
-        Replaced::Beside => error_about(
-            rt,
-            b"nothing is written, since no new file can be made beside ",
-            path,
-        ),
-        Replaced::Other => error_about(
-            rt,
-            b"nothing is written, since another program writes at the same time: ",
-            path,
-        ),
-    }
+    error_about(rt, obstacle(r), path)
 }
 
 // Whether the file was replaced; what stood in the way is said.

@@ -2,7 +2,6 @@
 // holds them, so that the next run finds what a run that was ended by force left.
 ghost use Rattle.std.specs.Prelude.{◌≡◌, length};
 
-use crate::file::read_full;
 use crate::path::{create, text_of};
 use console::buffer::{put, put_byte};
 use console::sizes::{WORD_ROOM, front};
@@ -115,9 +114,17 @@ fn is_shut(error: io::Error) -> bool {
     }
 }
 
-// Reads the note's figures, one more byte than it has where it is no note.
+// Reads the note's figures, one more byte than it has where it is no note, or what could be read of it.
 fn read_note(mut note: impl Read + Drop, figures: &mut [u8]) -> usize {
-    read_full(&mut note, figures).unwrap_or(0)
+    let mut done: usize = 0;
+    while done < figures.len() {
+        match note.read(&mut figures[done..]) {
+            Ok(0) => return done,
+            Ok(got) => done += got,
+            Err(_) => return done,
+        }
+    }
+    done
 }
 
 // Removes the note of these figures and the file that it names; an error where the folder may not be written.

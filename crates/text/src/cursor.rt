@@ -6,6 +6,13 @@ pub struct Cursor {
     pub at: usize,
 }
 
+// A refusal: its number in the list of refusals, and the place in the text that it names.
+#[derive(Clone, Copy)]
+pub struct Refusal {
+    pub no: u8,
+    pub place: usize,
+}
+
 // A place that was reached, or a refusal.
 #[derive(Clone, Copy)]
 pub enum Reach {

@@ -1,10 +1,10 @@
 -- The numbers of groups and methods and the place of an element, by the branches that the code takes.
 use Prim.Native.Nat.{ℕ, ◌+◌, ◌-◌, ◌*◌, ◌/◌, ◌%◌, ◌^◌, ◌≤◌, ◌<◌, min}
-use mathlib.Core.Path.{◌≡◌, refl, sym}
+use mathlib.Core.Path.{◌≡◌, refl}
 use mathlib.Core.List.{List}
 use mathlib.Core.Bool.{Bool, true, false, not, and-false}
 use native.Mathlib.Omega.{arith}
-use native.Mathlib.Nat.{mul-le-mul, mod-le, div-le_self, mod-zero, div-zero}
+use native.Mathlib.Nat.{mul-le-mul, mod-le, div-le_self}
 use borrow.Author.Rules.{rules}
 use borrow.Author.Tests.{le-ltb, eq-eqb, ne_eqb}
 use mir.Syntax.{w64}
@@ -70,14 +70,6 @@ pub ruleset many = (elements-fit, elements-are, bytes-is, rules)
 
 -- ---- where
 
-pub no-y : (i x : ℕ) → x ≡ 0 → 0 ≡ i / x
-no-y i x h = rw h (sym (div-zero i))
-
-pub no-x : (i x : ℕ) → x ≡ 0 → i ≡ i % x
-no-x i x h = rw h (sym (mod-zero i))
-
-pub ruleset split-points = (no-y, no-x, rules)
-
 -- a product of an index's point and a room
 small_product : (i a k : ℕ) → a ≤ i → i < 2 ^ 40 → k < 2 ^ 17 → a * k ≤ 2 ^ 40 * 2 ^ 17
 small_product i a k h p q = mul-le-mul {n₂ = 2 ^ 40} {m₂ = 2 ^ 17} (omega arith) (omega arith)
@@ -105,13 +97,10 @@ module _ (w x wide high i : ℕ) where
         let d : b ≤ i = rw q (div-le_self i x) in
         omega (arith, small_product i b wide d h l)
 
-  pub at_last : (w ≡ 2 → ⊥) → w ≡ 1 → x - 1 - i ≡ position w x wide high i
+  -- v is x - 1 - i
+  pub at_last : (u v : ℕ) → u ≡ x - 1 → v ≡ u - i → w ≡ 1 → v ≡ position w x wide high i
   unfolding position
-  at_last h l = rw (ne_eqb w 2 h, eq-eqb w 1 l)
-
-  pub at_none : (w ≡ 2 → ⊥) → w ≡ 1 → x ≤ i → 0 ≡ position w x wide high i
-  unfolding position
-  at_none h l m = rw (ne_eqb w 2 h, eq-eqb w 1 l) (omega arith)
+  at_last u v p q h = rw (q, p, h)
 
   -- every position is small enough for the code
   pub position-small : i < 2 ^ 40 → x < 2 ^ 32 → wide < 2 ^ 17 → high < 2 ^ 17 → position w x wide high i ≤ 2 ^ 58
@@ -122,7 +111,7 @@ module _ (w x wide high i : ℕ) where
     by-walk false true p q = rw (p, q) (omega arith)
     by-walk false false p q = rw (p, q) (row_fits (i % x) (i / x) refl refl hi hw)
 
-pub ruleset positions = (at-y-fastest, at_listed, at_last, at_none, rules)
+pub ruleset positions = (at-y-fastest, at_listed, at_last, rules)
 
 -- an element's bytes times its position
 pub place-fits : (k w a c d i at h : ℕ) → at ≡ position w a c d i → h ≡ (shape_of k).bytes → i < 2 ^ 40 → a < 2 ^ 32 → c < 2 ^ 17 → d < 2 ^ 17 → h * at ≤ 2 ^ 60
@@ -133,9 +122,6 @@ place-fits k w a c d i at h pt ph hi ha hc hd =
 pub place_is : (T : Tables) (g i : ℕ) (s : Storage) (r : ℕ) → s ≡ storage_of T g → r ≡ place_by s i → r ≡ place_of T g i
 unfolding place_of
 place_is T g i s r p q = rw (q, p)
-
-pub place-sum : (s : Storage) (i at h : ℕ) → at ≡ position s.walk s.x s.wide s.high i → h ≡ (shape_of s.kind).bytes → s.place + h * at ≡ place_by s i
-place-sum s i at h p q = rw (p, q)
 
 pub stored-wide : (T : Tables) (g : ℕ) (s : Storage) → s ≡ storage_of T g → s.wide ≤ past_points
 stored-wide T g s p = rw p (omega arith)

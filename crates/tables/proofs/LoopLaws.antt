@@ -7,12 +7,12 @@ use native.Mathlib.Omega.{arith}
 use native.Mathlib.Nat.{mul-le-mul_left}
 use borrow.Author.Rules.{rules}
 use native.Mathlib.Numerals.{add-one}
-use borrow.Author.Tests.{ltb-true, ltb-false, eqb-true, eqb-false, eq-eqb, ne_eqb}
+use borrow.Author.Tests.{ltb-true, ltb-false, eqb-true, eqb-false, eq-eqb}
 use lib.Bits.{bit_or, or_add_and, and_le_l, and_le_r}
 use lib.Dec.{eqb, leb, ltb}
 use lib.ListN.{length, get_or, get_or-eq_default}
 use Rattle.number.specs.Most.{most_objects}
-use Rattle.records.specs.Cells.{section_in, count_in, slot_in}
+use Rattle.records.specs.Cells.{section_in, count_in}
 use Rattle.records.specs.declared.Section.{Section}
 use Rattle.records.proofs.OpLaws.{product}
 use Rattle.tables.specs.Form.{table_sections, past_points, object_section, Tables, tables_in}
@@ -30,37 +30,10 @@ module _ (f : ℕ → Bool) where
   pub all-stop : (n i c : ℕ) (r : Bool) → c ≡ n → i < c → r ≡ f i → r ≡ false → false ≡ all_below n f
   all-stop n i c r p l q h = sym (all-fails f n i (rw p at l) (sym q ∙ h))
 
-  pub all_done : (n i c : ℕ) → c ≡ n → c ≤ i → i ≤ c → all_below i f ≡ true → true ≡ all_below n f
-  all_done n i c p h l q = let e : n ≡ i = omega arith in rw e (sym q)
-
-pub ruleset turns = (all_none, all-on, all-stop, all_done, rules)
-
 -- "512 objects"
 pub object-few : (t : List ℕ) (c i : ℕ) → c ≡ count_in t (section_in table_sections object_section) → i < c → i < most_objects
 unfolding count_in table_sections
 object-few t c i p h = omega arith
-
-pub ruleset object-turns = (all_none, all-on, all-stop, all_done, object-few, rules)
-
--- ---- numbers of a record that are zero
-
-abbrev pub zero_at : List ℕ → ℕ → ℕ → ℕ → ℕ → Bool
-zero_at t j i a k = eqb (slot_in t (section_in table_sections j) i (k + a)) 0
-
-module _ (t : List ℕ) (j i a : ℕ) where
-  pub zeros-none : all_below 0 (zero_at t j i a) ≡ true
-  zeros-none = all_none (zero_at t j i a)
-
-  pub zeros-on : (k v : ℕ) → all_below k (zero_at t j i a) ≡ true → v ≡ slot_in t (section_in table_sections j) i (k + a) → v ≡ 0 → all_below (k + 1) (zero_at t j i a) ≡ true
-  zeros-on k v p q h = all_more (zero_at t j i a) k p (rw (← q) (eq-eqb v 0 h))
-
-  pub zeros-stop : (n k v : ℕ) → k < n → v ≡ slot_in t (section_in table_sections j) i (k + a) → (v ≡ 0 → ⊥) → false ≡ all_below n (zero_at t j i a)
-  zeros-stop n k v l q h = sym (all-fails (zero_at t j i a) n k l (rw (← q) (ne_eqb v 0 h)))
-
-  pub zeros-done : (n k : ℕ) → n ≤ k → k ≤ n → all_below k (zero_at t j i a) ≡ true → true ≡ all_below n (zero_at t j i a)
-  zeros-done n k h l p = let e : n ≡ k = omega arith in rw e (sym p)
-
-pub ruleset zeros = (zeros-none, zeros-on, zeros-stop, zeros-done, rules)
 
 -- ---- cells that are zero
 

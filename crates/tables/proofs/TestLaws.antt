@@ -9,7 +9,6 @@ use lib.Dec.{leb}
 use Rattle.tables.specs.Form.{table_sections}
 use Rattle.tables.specs.Rule.{text_rule, inside_rule}
 use Rattle.tables.specs.Sizes.{sizes_fit}
-use Rattle.tables.proofs.All.{right}
 
 pub text-is : (n from past : ℕ) → (leb from past && leb past n) ≡ text_rule n from past
 unfolding text_rule
@@ -40,8 +39,5 @@ module _ (n m b c : ℕ) where
   pub sizes-out : (leb n 16777216 && leb m 1048576) ≡ false → false ≡ sizes_fit n m b c
   unfolding sizes_fit table_sections
   sizes-out h = rw h
-
-  pub sizes-sum : (leb n 16777216 && leb m 1048576) ≡ true → m ≤ 1048576
-  sizes-sum h = leb-true m 1048576 (right (leb n 16777216) (leb m 1048576) h)
 
 pub ruleset lent = (sizes-in, sizes-out, rules)

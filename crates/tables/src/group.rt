@@ -26,30 +26,24 @@ const Y_FASTEST: u64 = 2;
 fn points(n: u64) -> u32
     ensures { result ≡ min n past_points }
 {
-    if n < (PAST_POINTS as u64) {
-        n as u32
-    } else {
-        PAST_POINTS
-    }
+    n.min(PAST_POINTS as u64) as u32
 }
 
 // A place in the image, at most one past the longest.
 fn in_image(n: u64) -> u32
     ensures { result ≡ min n past_image }
 {
-    if n < (PAST_IMAGE as u64) {
-        n as u32
-    } else {
-        PAST_IMAGE
-    }
+    n.min(PAST_IMAGE as u64) as u32
 }
 
 // At most 7, as a power of ten.
 fn power_of(n: u64) -> u32
     ensures { result ≡ min n 7 }
 {
-    if n < 7 { n as u32 } else { 7 }
+    n.min(7) as u32
 }
+
+// Each number of a group has a function of its own, since the contracts name a definition for each.
 
 // A group's data type; 0 is a part that is not stored.
 pub fn kind_of(t: &[u64], g: u16) -> u64
@@ -174,8 +168,7 @@ pub fn elements_of(t: &[u64], g: u16) -> u64
 pub fn type_bytes(kind: u64) -> u32
     ensures { result ≡ (shape_of kind).bytes }
 {
-    let shape = shape_of(kind);
-    shape.bytes as u32
+    shape_of(kind).bytes as u32
 }
 
 // How many bytes an element of a group has.
@@ -189,20 +182,14 @@ pub fn bytes_of(t: &[u64], g: u16) -> u32
 fn y_point(i: u64, x: u32) -> u64
     ensures { result ≡ i / x }
 {
-    if x == 0 {
-        return 0;
-    }
-    i / (x as u64)
+    i.checked_div(x as u64).unwrap_or(0)
 }
 
 // The x point of an index; the index itself in a part without points.
 fn x_point(i: u64, x: u32) -> u64
     ensures { result ≡ i % x }
 {
-    if x == 0 {
-        return i;
-    }
-    i % (x as u64)
+    i.checked_rem(x as u64).unwrap_or(i)
 }
 
 // Where the index of a listing stands among the stored elements.
@@ -212,16 +199,11 @@ fn position_of(walk: u64, x: u32, wide: u32, high: u32, i: u64) -> u64
 {
     let a = x_point(i, x);
     let b = y_point(i, x);
-    if walk == Y_FASTEST {
-        return a * (high as u64) + b;
+    match walk {
+        Y_FASTEST => a * (high as u64) + b,
+        LAST_FIRST => (x as u64).saturating_sub(1).saturating_sub(i),
+        _ => b * (wide as u64) + a,
     }
-    if walk == LAST_FIRST {
-        if i < (x as u64) {
-            return (x as u64) - 1 - i;
-        }
-        return 0;
-    }
-    b * (wide as u64) + a
 }
 
 // How a group is stored: its data type, byte order, first byte's place, points and room in x and y, walk and mask.

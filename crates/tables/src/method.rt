@@ -14,11 +14,7 @@ const PAST_COEFFICIENT: u64 = 1000000001;
 fn coefficient_size(n: u64) -> u64
     ensures { result ≡ min n past_coefficient }
 {
-    if n < PAST_COEFFICIENT {
-        n
-    } else {
-        PAST_COEFFICIENT
-    }
+    n.min(PAST_COEFFICIENT)
 }
 
 // The whole number in two cells of method m.

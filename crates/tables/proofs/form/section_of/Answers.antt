@@ -1,27 +1,6 @@
 use Rattle.tables.proofs.FormLaws.{numbered-sections}
 use Rattle.tables.proofs.form.section_of.Goals as goal
 
-pub section-requires : goal.section-requires
-section-requires c = search numbered-sections
-
-pub section-requires-in-1 : goal.section-requires-in-1
-section-requires-in-1 c = search numbered-sections
-
-pub section-requires-in-2 : goal.section-requires-in-2
-section-requires-in-2 c = search numbered-sections
-
-pub section-requires-in-3 : goal.section-requires-in-3
-section-requires-in-3 c = search numbered-sections
-
-pub section-requires-in-4 : goal.section-requires-in-4
-section-requires-in-4 c = search numbered-sections
-
-pub section-requires-in-5 : goal.section-requires-in-5
-section-requires-in-5 c = search numbered-sections
-
-pub section-requires-in_default : goal.section-requires-in_default
-section-requires-in_default c = search numbered-sections
-
 pub returns-in-0 : goal.returns-in-0
 returns-in-0 c = search numbered-sections
 

@@ -5,6 +5,7 @@ ghost use Rattle.number.specs.Below.{sum_below, all_below};
 ghost use Rattle.tables.specs.Group.{elements};
 ghost use Rattle.tables.specs.Rule.{object_rule, group_rule, method_rule, table_rule, entry_rule, head_rule, ruled, keeps_rule};
 
+use crate::below::all_below;
 use crate::conversion::{keeps_entry, keeps_method, keeps_table};
 use crate::object::keeps_object;
 use crate::part::keeps_group;
@@ -21,92 +22,44 @@ const MOST_ELEMENTS: u64 = 4096;
 fn keep_objects(t: &[u64], n: usize) -> bool
     ensures { result ≡ all_below ((tables_in t.now).counts object_section) (object_rule (tables_in t.now) n) }
 {
-    let count = count_of(t, OBJECT);
-    let mut i: u16 = 0;
-    while i < count {
-        if keeps_object(t, n, i) {
-            i += 1;
-        } else {
-            return false;
-        }
-    }
-    true
+    all_below(count_of(t, OBJECT), |i| keeps_object(t, n, i))
 }
 
 // Whether every group keeps the rule.
 fn keep_groups(t: &[u64], m: usize) -> bool
     ensures { result ≡ all_below ((tables_in t.now).counts group_section) (λ (g : ℕ). group_rule (tables_in t.now) g m) }
 {
-    let count = count_of(t, GROUP);
-    let mut g: u16 = 0;
-    while g < count {
-        if keeps_group(t, g, m) {
-            g += 1;
-        } else {
-            return false;
-        }
-    }
-    true
+    all_below(count_of(t, GROUP), |g| keeps_group(t, g, m))
 }
 
 // Whether every method keeps the rule.
 fn keep_methods(t: &[u64]) -> bool
     ensures { result ≡ all_below ((tables_in t.now).counts method_section) (method_rule (tables_in t.now)) }
 {
-    let count = count_of(t, METHOD);
-    let mut i: u16 = 0;
-    while i < count {
-        if keeps_method(t, i) {
-            i += 1;
-        } else {
-            return false;
-        }
-    }
-    true
+    all_below(count_of(t, METHOD), |i| keeps_method(t, i))
 }
 
 // Whether every verbal table keeps the rule.
 fn keep_tables(t: &[u64], n: usize) -> bool
     ensures { result ≡ all_below ((tables_in t.now).counts table_section) (table_rule (tables_in t.now) n) }
 {
-    let count = count_of(t, TABLE);
-    let mut i: u16 = 0;
-    while i < count {
-        if keeps_table(t, n, i) {
-            i += 1;
-        } else {
-            return false;
-        }
-    }
-    true
+    all_below(count_of(t, TABLE), |i| keeps_table(t, n, i))
 }
 
 // Whether every entry keeps the rule.
 fn keep_entries(t: &[u64], n: usize) -> bool
     ensures { result ≡ all_below ((tables_in t.now).counts entry_section) (entry_rule (tables_in t.now) n) }
 {
-    let count = count_of(t, ENTRY);
-    let mut i: u16 = 0;
-    while i < count {
-        if keeps_entry(t, n, i) {
-            i += 1;
-        } else {
-            return false;
-        }
-    }
-    true
+    all_below(count_of(t, ENTRY), |i| keeps_entry(t, n, i))
 }
 
 // How many elements all groups have.
 fn sum_of(t: &[u64]) -> u64
     ensures { result ≡ sum_below ((tables_in t.now).counts group_section) (elements (tables_in t.now)) }
 {
-    let count = count_of(t, GROUP);
     let mut sum: u64 = 0;
-    let mut g: u16 = 0;
-    while g < count {
+    for g in 0..count_of(t, GROUP) {
         sum += elements_of(t, g);
-        g += 1;
     }
     sum
 }

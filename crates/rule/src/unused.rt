@@ -1,9 +1,10 @@
 // "counts within capacity" and "no unused field other than zero"
-ghost use Rattle.std.specs.Prelude.{◌≡◌, ℕ, ◌+◌, ◌-◌, ◌*◌, ◌<◌, ◌^◌, min, eqb, get_or};
+ghost use Rattle.std.specs.Prelude.{◌≡◌, ℕ, ◌+◌, ◌*◌, ◌<◌, ◌^◌, eqb, get_or};
 ghost use Rattle.tables.specs.Form.{tables_in};
 ghost use Rattle.number.specs.Below.{all_below};
 ghost use Rattle.tables.specs.Rule.{count_fits, unused_zero, form_rule};
 
+use crate::below::all_below;
 use records::Section;
 use tables::form::{count_of, section_of, slot_of};
 
@@ -15,26 +16,7 @@ pub fn has_zeros(t: &[u64], j: u8, i: u16, from: u8, many: u8) -> bool
     ensures { result ≡ all_below many (λ (k : ℕ). eqb ((tables_in t.now).slots j i (k + from)) 0) }
 {
     let first = from as u16;
-    let count = many as u16;
-    let mut k: u16 = 0;
-    while k < count {
-        if slot_of(t, j, i, k + first) == 0 {
-            k += 1;
-        } else {
-            return false;
-        }
-    }
-    true
-}
-
-// How many of so many cells from a place on there are, where there are n in all.
-fn cells_there(n: usize, from: usize, many: usize) -> usize
-    ensures { result ≡ min (n - from) many }
-{
-    if n < from {
-        return 0;
-    }
-    if n - from < many { n - from } else { many }
+    all_below(many as u16, |k| slot_of(t, j, i, k + first) == 0)
 }
 
 // Whether so many cells from a place on are zero; past the end there is none. All bits are gathered, with no test of each cell.
@@ -42,12 +24,10 @@ fn are_zero(t: &[u64], from: usize, many: usize) -> bool
     requires { from + many < 2 ^ 64 }
     ensures { result ≡ all_below many (λ (k : ℕ). eqb (get_or t.now (from + k) 0) 0) }
 {
-    let there = cells_there(t.len(), from, many);
+    let there = t.len().saturating_sub(from).min(many);
     let mut bits: u64 = 0;
-    let mut k: usize = 0;
-    while k < there {
-        bits = bits | t[from + k];
-        k += 1;
+    for k in 0..there {
+        bits |= t[from + k];
     }
     bits == 0
 }
@@ -81,11 +61,8 @@ fn is_unused(t: &[u64], j: u8) -> bool
 pub fn keeps_form(t: &[u64]) -> bool
     ensures { result ≡ form_rule t.now }
 {
-    let mut j: u8 = 0;
-    while j < SECTIONS {
-        if is_count(t, j) & is_unused(t, j) {
-            j += 1;
-        } else {
+    for j in 0..SECTIONS {
+        if !(is_count(t, j) & is_unused(t, j)) {
             return false;
         }
     }

@@ -1,12 +1,6 @@
 use Rattle.tables.proofs.WordLaws.{conversions}
 use Rattle.rule.proofs.conversion.keeps_word.Goals as goal
 
-pub keeps_identical-requires : goal.keeps_identical-requires
-keeps_identical-requires c = search conversions
-
-pub keeps_linear-requires : goal.keeps_linear-requires
-keeps_linear-requires c = search conversions
-
 pub returns-in-19 : goal.returns-in-19
 returns-in-19 c = search conversions
 

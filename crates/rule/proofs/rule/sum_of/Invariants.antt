@@ -1,4 +1,3 @@
-use Prim.Native.Nat.{◌≤◌, ◌-◌}
 use mathlib.Core.Path.{◌≡◌}
 use Rattle.tables.specs.Form.{tables_in}
 use Rattle.number.specs.Below.{sum_below}
@@ -6,7 +5,4 @@ use Rattle.tables.specs.Group.{elements}
 use Rattle.rule.proofs.rule.sum_of.Given as goal
 
 abbrev pub invariant-loop-g : goal.invariant-loop-g
-invariant-loop-g l = (l.g ≤ l.count) × (l.sum ≡ sum_below l.g (elements (tables_in l.t)))
-
-abbrev pub decreases-loop-g : goal.decreases-loop-g
-decreases-loop-g l = l.count - l.g
+invariant-loop-g l = l.sum ≡ sum_below l.g (elements (tables_in l.t))

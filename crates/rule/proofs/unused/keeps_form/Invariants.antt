@@ -1,4 +1,3 @@
-use Prim.Native.Nat.{◌≤◌, ◌-◌}
 use mathlib.Core.Path.{◌≡◌}
 use mathlib.Core.Bool.{true}
 use Rattle.number.specs.Below.{all_below}
@@ -6,7 +5,4 @@ use Rattle.tables.proofs.LoopLaws.{formed_at}
 use Rattle.rule.proofs.unused.keeps_form.Given as goal
 
 abbrev pub invariant-loop-j : goal.invariant-loop-j
-invariant-loop-j l = (l.j ≤ 6) × (all_below l.j (formed_at l.t) ≡ true)
-
-abbrev pub decreases-loop-j : goal.decreases-loop-j
-decreases-loop-j l = 6 - l.j
+invariant-loop-j l = all_below l.j (formed_at l.t) ≡ true

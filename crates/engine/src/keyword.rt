@@ -1,12 +1,12 @@
 // A token where a keyword is expected: bare, after `/begin`, after `/end`.
-ghost use Rattle.std.specs.Prelude.{◌≡◌, ◌-◌, length};
+ghost use Rattle.std.specs.Prelude.{◌≡◌, ◌≤◌, ◌-◌, length};
 ghost use Rattle.words.specs.Class.{class_at};
 ghost use Rattle.rows.specs.Codes.{MODULE};
 ghost use Rattle.rows.specs.Rows.{rows, needed};
 ghost use Rattle.grammar.specs.Move.{view_in, moved};
 ghost use Rattle.grammar.specs.Keyword.{row_from, row_of, may_stand, axes_of, limit_of, is_often, one_more, counting, stands, plain_row, home_of, bare_word, levels_in, skips, opens, begun_word, is_met, all_met, ends, holder_of, closes, ended_word, item, after_begin, after_end};
 
-use grammar::parameter::{BEGIN, END, NAME, go, nothing, refuse, state_of};
+use grammar::parameter::{BEGIN, END, NAME, go, refuse};
 use grammar::state::{Act, BEGUN, ENDED, ITEMS, Move, OVER, State};
 use grammar::view::{AXIS, OBJECT, current_of};
 use rows::cells::{
@@ -15,7 +15,7 @@ use rows::cells::{
 };
 use rows::slots::OBJECT_TYPE;
 use rows::{NEED_COUNT, ROW_COUNT, is_row, need_cell, row_cell};
-use text::cursor::{Cursor, Reach};
+use text::cursor::{Cursor, Reach, Refusal};
 use words::class::{Class, class_of};
 use words::codes::{
     AXIS_DESCR, AXIS_PTS, CHARACTERISTIC, COMPU_METHOD, COMPU_VTAB, CURVE, MAP, MEASUREMENT,
@@ -32,7 +32,8 @@ const OUTSIDE: u8 = 2;
 
 // A row of MODULE's that the row of the word w does not come before: the search from there on finds what the search from the first row finds.
 fn module_row(w: u8) -> u8
-    ensures { row_from (length rows - result) result MODULE w ≡ row_of MODULE w }
+    ensures within { result ≤ 45 }
+    ensures found { row_from (length rows - result) result MODULE w ≡ row_of MODULE w }
 {
     match w {
         AXIS_PTS => 22,
@@ -44,7 +45,8 @@ fn module_row(w: u8) -> u8
 
 // A row that the row of the word w in the block b does not come before, the first of the block's rows as a rule.
 fn first_row(b: u8, w: u8) -> u8
-    ensures { row_from (length rows - result) result b w ≡ row_of b w }
+    ensures within { result ≤ 45 }
+    ensures found { row_from (length rows - result) result b w ≡ row_of b w }
 {
     match b {
         MODULE => module_row(w),
@@ -65,14 +67,12 @@ fn first_row(b: u8, w: u8) -> u8
 fn row_of(b: u8, w: u8) -> u8
     ensures { result ≡ row_of b w }
 {
-    let mut i = first_row(b, w);
-    while i < ROW_COUNT {
+    for i in first_row(b, w)..ROW_COUNT {
         if is_row(i, b, w) {
             return i;
         }
-        i += 1;
     }
-    i
+    ROW_COUNT
 }
 
 // Whether the current record lets row i stand.
@@ -122,7 +122,7 @@ fn is_often(t: &[u64], i: u8) -> bool
 fn one_more(n: u64) -> u64
     ensures { result ≡ one_more n }
 {
-    if n < 255 { n + 1 } else { 255 }
+    n.min(254) + 1
 }
 
 // What counts the keyword of row i, and adds the record that it opens.
@@ -131,7 +131,7 @@ fn counting_of(t: &[u64], i: u8) -> Act
 {
     let slot = row_cell(i, ROW_ONCE);
     if slot == 0 {
-        return nothing();
+        return Act::nothing();
     }
     let sec = row_cell(i, ROW_SEC);
     let seen = current_of(t, sec, slot as u16);
@@ -141,40 +141,35 @@ fn counting_of(t: &[u64], i: u8) -> Act
         slot,
         many: 1,
         a: one_more(seen),
-        b: 0,
-        c: 0,
-        d: 0,
+        ..Act::nothing()
     }
 }
 
 // The keyword of row i, whose block is then `inner`.
-fn stand(t: &[u64], i: u8, inner: u8, a: usize, e: usize) -> Move
+fn stand(t: &[u64], i: u8, inner: u8, a: usize, e: usize) -> Result<Move, Refusal>
     ensures { moved result ≡ stands (view_in t.now) i inner a e }
 {
     if may_stand(t, i) {
         if is_often(t, i) {
-            return Move::Refused { no: 6, place: a };
+            return Err(Refusal { no: 6, place: a });
         }
-        return go(
-            e,
-            state_of(ITEMS, inner, row_cell(i, ROW_FIRST), 0),
-            counting_of(t, i),
-        );
+        let state = State::new(ITEMS, inner, row_cell(i, ROW_FIRST), 0);
+        return go(e, state, counting_of(t, i));
     }
-    Move::Refused { no: 5, place: a }
+    Err(Refusal { no: 5, place: a })
 }
 
 // A plain keyword of row i.
-fn plain_row(t: &[u64], s: State, i: u8, a: usize, e: usize) -> Move
+fn plain_row(t: &[u64], s: State, i: u8, a: usize, e: usize) -> Result<Move, Refusal>
     ensures { moved result ≡ plain_row (view_in t.now) s i a e }
 {
     if i < ROW_COUNT {
         if row_cell(i, ROW_OPENS) == OUTSIDE {
-            return Move::Refused { no: 9, place: a };
+            return Err(Refusal { no: 9, place: a });
         }
         return stand(t, i, s.block, a, e);
     }
-    Move::Refused { no: 5, place: a }
+    Err(Refusal { no: 5, place: a })
 }
 
 // Where the rows of the skipped keywords stand that may be in the block b.
@@ -185,17 +180,15 @@ fn home_of(b: u8) -> u8
 }
 
 // A bare word.
-fn bare_word(x: &[u8], t: &[u64], s: State, a: usize, e: usize) -> Move
+fn bare_word(x: &[u8], t: &[u64], s: State, a: usize, e: usize) -> Result<Move, Refusal>
     ensures { moved result ≡ bare_word (view_in t.now) s a e (class_at x.now a e) }
 {
     match class_of(x, a, e) {
         Class::TakenPlain(c) => plain_row(t, s, row_of(s.block, c), a, e),
         Class::SkippedPlain(c) => plain_row(t, s, row_of(home_of(s.block), c), a, e),
-        Class::TakenBlock(_) => Move::Refused { no: 5, place: a },
-        Class::TakenChoice(_) => Move::Refused { no: 5, place: a },
-        Class::SkippedBlock(_) => Move::Refused { no: 5, place: a },
-        Class::ListedOnly => Move::Refused { no: 9, place: a },
-        Class::Unlisted => Move::Refused { no: 4, place: a },
+        Class::ListedOnly => Err(Refusal { no: 9, place: a }),
+        Class::Unlisted => Err(Refusal { no: 4, place: a }),
+        _ => Err(Refusal { no: 5, place: a }),
     }
 }
 
@@ -203,56 +196,50 @@ fn bare_word(x: &[u8], t: &[u64], s: State, a: usize, e: usize) -> Move
 fn levels_in(b: u8) -> u8
     ensures { result ≡ levels_in b }
 {
-    if b == PROJECT {
-        return 14;
+    match b {
+        PROJECT => 14,
+        MODULE => 13,
+        AXIS_DESCR => 11,
+        _ => 12,
     }
-    if b == MODULE {
-        return 13;
-    }
-    if b == AXIS_DESCR {
-        return 11;
-    }
-    12
 }
 
 // Past the skipped block whose word stands from a up to e.
-fn skip(x: &[u8], s: State, a: usize, e: usize) -> Move
+fn skip(x: &[u8], s: State, a: usize, e: usize) -> Result<Move, Refusal>
     ensures { moved result ≡ skips x.now s a e }
 {
     let block = s.block;
     if block == FILE {
-        return Move::Refused { no: 5, place: a };
+        return Err(Refusal { no: 5, place: a });
     }
     let word = Cursor { at: e };
     match word.skip_block(x, a, levels_in(block)) {
-        Reach::To(past) => go(past.at, state_of(ITEMS, block, 0, 0), nothing()),
-        Reach::Refused { no, place } => Move::Refused { no, place },
+        Reach::To(past) => go(past.at, State::new(ITEMS, block, 0, 0), Act::nothing()),
+        Reach::Refused { no, place } => Err(Refusal { no, place }),
     }
 }
 
 // The block of the word c opens.
-fn open(t: &[u64], s: State, c: u8, a: usize, e: usize) -> Move
+fn open(t: &[u64], s: State, c: u8, a: usize, e: usize) -> Result<Move, Refusal>
     ensures { moved result ≡ opens (view_in t.now) s c a e }
 {
     let i = row_of(s.block, c);
     if i < ROW_COUNT {
         return stand(t, i, c, a, e);
     }
-    Move::Refused { no: 5, place: a }
+    Err(Refusal { no: 5, place: a })
 }
 
 // The word after `/begin`.
-fn begun_word(x: &[u8], t: &[u64], s: State, a: usize, e: usize) -> Move
+fn begun_word(x: &[u8], t: &[u64], s: State, a: usize, e: usize) -> Result<Move, Refusal>
     ensures { moved result ≡ begun_word x.now (view_in t.now) s a e (class_at x.now a e) }
 {
     match class_of(x, a, e) {
         Class::TakenBlock(c) => open(t, s, c, a, e),
         Class::SkippedBlock(_) => skip(x, s, a, e),
-        Class::TakenPlain(_) => Move::Refused { no: 5, place: a },
-        Class::TakenChoice(_) => Move::Refused { no: 5, place: a },
-        Class::SkippedPlain(_) => Move::Refused { no: 5, place: a },
-        Class::ListedOnly => Move::Refused { no: 9, place: a },
-        Class::Unlisted => Move::Refused { no: 4, place: a },
+        Class::ListedOnly => Err(Refusal { no: 9, place: a }),
+        Class::Unlisted => Err(Refusal { no: 4, place: a }),
+        _ => Err(Refusal { no: 5, place: a }),
     }
 }
 
@@ -277,11 +264,8 @@ fn is_met(t: &[u64], b: u8, i: u8) -> bool
 fn all_met(t: &[u64], b: u8) -> bool
     ensures { result ≡ all_met (length needed) (view_in t.now) b 0 }
 {
-    let mut i: u8 = 0;
-    while i < NEED_COUNT {
-        if is_met(t, b, i) {
-            i += 1;
-        } else {
+    for i in 0..NEED_COUNT {
+        if !is_met(t, b, i) {
             return false;
         }
     }
@@ -289,48 +273,44 @@ fn all_met(t: &[u64], b: u8) -> bool
 }
 
 // `/end`.
-fn end(t: &[u64], s: State, a: usize, e: usize) -> Move
+fn end(t: &[u64], s: State, a: usize, e: usize) -> Result<Move, Refusal>
     ensures { moved result ≡ ends (view_in t.now) s a e }
 {
     let block = s.block;
     if block == FILE {
-        return Move::Refused { no: 3, place: a };
+        return Err(Refusal { no: 3, place: a });
     }
     if all_met(t, block) {
-        return go(e, state_of(ENDED, block, 0, 0), nothing());
+        return go(e, State::new(ENDED, block, 0, 0), Act::nothing());
     }
-    Move::Refused { no: 5, place: a }
+    Err(Refusal { no: 5, place: a })
 }
 
 // The block that holds the block b.
 fn holder_of(b: u8) -> u8
     ensures { result ≡ holder_of b }
 {
-    if b == PROJECT {
-        return FILE;
+    match b {
+        PROJECT => FILE,
+        MODULE => PROJECT,
+        AXIS_DESCR => CHARACTERISTIC,
+        _ => MODULE,
     }
-    if b == MODULE {
-        return PROJECT;
-    }
-    if b == AXIS_DESCR {
-        return CHARACTERISTIC;
-    }
-    MODULE
 }
 
 // The open block closes.
-fn close(s: State, a: usize, e: usize) -> Move
+fn close(s: State, a: usize, e: usize) -> Result<Move, Refusal>
     ensures { moved result ≡ closes s a e }
 {
     let block = s.block;
     if block == PROJECT {
-        return go(e, state_of(OVER, FILE, 0, 0), nothing());
+        return go(e, State::new(OVER, FILE, 0, 0), Act::nothing());
     }
-    go(e, state_of(ITEMS, holder_of(block), 0, 0), nothing())
+    go(e, State::new(ITEMS, holder_of(block), 0, 0), Act::nothing())
 }
 
 // The word after `/end`.
-fn ended_word(x: &[u8], s: State, a: usize, e: usize) -> Move
+fn ended_word(x: &[u8], s: State, a: usize, e: usize) -> Result<Move, Refusal>
     ensures { moved result ≡ ended_word s a e (class_at x.now a e) }
 {
     match class_of(x, a, e) {
@@ -338,26 +318,21 @@ fn ended_word(x: &[u8], s: State, a: usize, e: usize) -> Move
             if c == s.block {
                 return close(s, a, e);
             }
-            Move::Refused { no: 3, place: a }
+            Err(Refusal { no: 3, place: a })
         }
-        Class::TakenPlain(_) => Move::Refused { no: 3, place: a },
-        Class::TakenChoice(_) => Move::Refused { no: 3, place: a },
-        Class::SkippedBlock(_) => Move::Refused { no: 3, place: a },
-        Class::SkippedPlain(_) => Move::Refused { no: 3, place: a },
-        Class::ListedOnly => Move::Refused { no: 3, place: a },
-        Class::Unlisted => Move::Refused { no: 3, place: a },
+        _ => Err(Refusal { no: 3, place: a }),
     }
 }
 
 // A piece where a keyword or a mark is expected.
-pub fn item(x: &[u8], t: &[u64], s: State, k: u8, a: usize, e: usize) -> Move
+pub fn item(x: &[u8], t: &[u64], s: State, k: u8, a: usize, e: usize) -> Result<Move, Refusal>
     ensures { moved result ≡ item x.now (view_in t.now) s k a e }
 {
     if k == NAME {
         return bare_word(x, t, s, a, e);
     }
     if k == BEGIN {
-        return go(e, state_of(BEGUN, s.block, 0, 0), nothing());
+        return go(e, State::new(BEGUN, s.block, 0, 0), Act::nothing());
     }
     if k == END {
         return end(t, s, a, e);
@@ -366,7 +341,14 @@ pub fn item(x: &[u8], t: &[u64], s: State, k: u8, a: usize, e: usize) -> Move
 }
 
 // A piece after `/begin`.
-pub fn after_begin(x: &[u8], t: &[u64], s: State, k: u8, a: usize, e: usize) -> Move
+pub fn after_begin(
+    x: &[u8],
+    t: &[u64],
+    s: State,
+    k: u8,
+    a: usize,
+    e: usize,
+) -> Result<Move, Refusal>
     ensures { moved result ≡ after_begin x.now (view_in t.now) s k a e }
 {
     if k == NAME {
@@ -376,7 +358,7 @@ pub fn after_begin(x: &[u8], t: &[u64], s: State, k: u8, a: usize, e: usize) -> 
 }
 
 // A piece after `/end`.
-pub fn after_end(x: &[u8], s: State, k: u8, a: usize, e: usize) -> Move
+pub fn after_end(x: &[u8], s: State, k: u8, a: usize, e: usize) -> Result<Move, Refusal>
     ensures { moved result ≡ after_end x.now s k a e }
 {
     if k == NAME {

@@ -1,3 +1,4 @@
+pub mod Answered
 pub mod ViewLaws
 pub mod NameLaws
 pub mod ParameterLaws

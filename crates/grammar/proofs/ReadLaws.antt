@@ -8,6 +8,7 @@ use borrow.Author.Rules.{rules}
 use borrow.Author.Tests.{eq-eqb, ne_eqb, lt-ltb, le-ltb}
 use lib.Dec.{ltb}
 use lib.ListN.{length, set, replicate, length-set, length-replicate}
+use Rattle.std.specs.Prelude.{Result, Ok, Err}
 use Rattle.text.specs.Answer.{Answer, given, told}
 use Rattle.text.specs.Answer as text
 use Rattle.text.specs.Token.{next_token}
@@ -25,12 +26,11 @@ use Rattle.grammar.specs.Out.{Out, accepted, refusing, out_of, left, read_into, 
 use Rattle.grammar.specs.declared.state.State.{State}
 use Rattle.grammar.proofs.Cells.{CellsOf, read-encode}
 use Rattle.grammar.specs.declared.state.Act.{Act}
-use Rattle.grammar.specs.declared.state.Move as code
 use Rattle.grammar.specs.declared.state.Move.TheVariants as variant
-use Rattle.grammar.specs.declared.state.ReadAnswer as answer
-use Rattle.grammar.specs.declared.state.ReadAnswer.TheVariants as ended
+use Rattle.text.specs.declared.cursor.Refusal.{Refusal}
+use Rattle.grammar.proofs.Answered.{Answered}
 
-module _ (x : List ℕ) (v : View) (s : State) (k a e : ℕ) (m : code.Move) where
+module _ (x : List ℕ) (v : View) (s : State) (k a e : ℕ) (m : Answered) where
   pub piece-over : s.mode ≡ 3 → moved m ≡ wrong 3 x k a e → moved m ≡ on_piece x v s k a e
   unfolding on_piece
   piece-over h p = rw (eq-eqb s.mode 3 h, p)
@@ -55,22 +55,13 @@ module _ (x : List ℕ) (v : View) (s : State) (k a e : ℕ) (m : code.Move) whe
 
 pub ruleset pieces = (piece-over, piece-begun, piece-ended, piece-item, piece-taken, rules)
 
-module _ (s : State) (p : ℕ) where
-  pub finish-over : s.mode ≡ 3 → over ≡ finishing s p
-  finish-over h = rw (eq-eqb s.mode 3 h)
-
-  pub finish-early : (s.mode ≡ 3 → ⊥) → refused 3 p ≡ finishing s p
-  finish-early h = rw (ne_eqb s.mode 3 h)
-
-pub ruleset finishes = (finish-over, finish-early, rules)
-
 -- r is what `token` gave, by its cases w
 module _ (x : List ℕ) (v : View) (s : State) (k : ℕ) (r : Token) (p : told r ≡ next_token x k) where
   token-is : (w : Token) → r ≡ w → on_token x v s (told w) ≡ move x v s k
   unfolding move
   token-is w y = ap (on_token x v s) (sym (ap told y) ∙ p)
 
-  module _ (a : ℕ) (c : Cursor) (m : code.Move) where
+  module _ (a : ℕ) (c : Cursor) (m : Answered) where
     pub move-name : r ≡ token.Name a c → moved m ≡ on_piece x v s 0 a c.at → moved m ≡ move x v s k
     move-name y q = q ∙ token-is (token.Name a c) y
 
@@ -86,7 +77,7 @@ module _ (x : List ℕ) (v : View) (s : State) (k : ℕ) (r : Token) (p : told r
     pub move-end : r ≡ token.End a c → moved m ≡ on_piece x v s 5 a c.at → moved m ≡ move x v s k
     move-end y q = q ∙ token-is (token.End a c) y
 
-  pub move-finish : (q : ℕ) (m : code.Move) → r ≡ token.Finish q → moved m ≡ finishing s q → moved m ≡ move x v s k
+  pub move-finish : (q : ℕ) (m : Answered) → r ≡ token.Finish q → moved m ≡ finishing s q → moved m ≡ move x v s k
   move-finish q m y z = z ∙ token-is (token.Finish q) y
 
   pub move-refused : (n q : ℕ) → r ≡ token.Refused n q → refused n q ≡ move x v s k
@@ -117,41 +108,39 @@ length-applied : (a : Act) (t : List ℕ) → length (applied_in a t) ≡ length
 unfolding applied_in
 length-applied a t = length-puts (added_in a t) (section_in sections a.sec) (count_in (added_in a t) (section_in sections a.sec) - 1) a.slot (values a) ∙ length-add t (section_in sections a.adds)
 
--- the loop: what is read from here on is what is read in all
-pub record Reading (x t₀ : List ℕ) (first : State) (t : List ℕ) (s : State) (k f : ℕ) : Type 0 where
+-- the loop, whose turn i is next: what is read from here on is what is read in all
+pub record Reading (x t₀ : List ℕ) (first : State) (t : List ℕ) (s : State) (k i : ℕ) : Type 0 where
   pub long : length t ≡ length t₀
-  pub same : read_from_in f x k s t ≡ read_from_in (length x + 1) x 0 first t₀
+  pub same : read_from_in (length x + 1 - i) x k s t ≡ read_from_in (length x + 1) x 0 first t₀
 
 module _ (x t₀ : List ℕ) (first : State) where
-  pub reading-start : (f : ℕ) → f ≡ length x + 1 → Reading x t₀ first t₀ first 0 f
-  reading-start f p = record { long = refl; same = rw p }
+  pub reading-start : Reading x t₀ first t₀ first 0 0
+  reading-start = let z : length x + 1 - 0 ≡ length x + 1 = omega arith in record { long = refl; same = rw z }
 
-  module _ (t : List ℕ) (s : State) (k f : ℕ) (q : Reading x t₀ first t s k f) where
-    pub reading-end : f ≤ 0 → refusing 3 (length x) t ≡ read_from_in (length x + 1) x 0 first t₀
+  module _ (t : List ℕ) (s : State) (k i : ℕ) (q : Reading x t₀ first t s k i) where
+    pub reading-end : length x + 1 ≤ i → refusing 3 (length x) t ≡ read_from_in (length x + 1) x 0 first t₀
     unfolding read_from_in
-    reading-end h = let z : f ≡ 0 = omega arith in rw z at q.same
+    reading-end h = let z : length x + 1 - i ≡ 0 = omega arith in rw z at q.same
 
     -- m is what `move_of` gave
-    module _ (h : 0 < f) (m : code.Move) (p : moved m ≡ move x (view_in t) s k) where
-      look : following_in (moved m) t (read_from_in (f - 1) x) ≡ read_from_in (length x + 1) x 0 first t₀
+    module _ (h : i < length x + 1) (m : Answered) (p : moved m ≡ move x (view_in t) s k) where
+      look : following_in (moved m) t (read_from_in (length x + 1 - (i + 1)) x) ≡ read_from_in (length x + 1) x 0 first t₀
       unfolding read_from_in
-      look = let z : f ≡ suc (f - 1) = omega arith in rw p (rw z at q.same)
+      look = let z : length x + 1 - i ≡ suc (length x + 1 - (i + 1)) = omega arith in rw p (rw z at q.same)
 
-      pub reading-over : m ≡ variant.Over → accepted t ≡ read_from_in (length x + 1) x 0 first t₀
+      pub reading-over : m ≡ Ok variant.Over → accepted t ≡ read_from_in (length x + 1) x 0 first t₀
       reading-over y = rw y at look
 
-      pub reading-refused : (n r : ℕ) → m ≡ variant.Refused n r → refusing n r t ≡ read_from_in (length x + 1) x 0 first t₀
-      reading-refused n r y = rw y at look
+      pub reading-refused : (r : Refusal) → m ≡ Err r → refusing r.no r.place t ≡ read_from_in (length x + 1) x 0 first t₀
+      reading-refused r y = rw y at look
 
-      pub reading-on : (c : Cursor) (st : State) (act : Act) (u : List ℕ) → m ≡ variant.Went c st act → u ≡ applied_in act t → Reading x t₀ first u st c.at (f - 1)
+      pub reading-on : (c : Cursor) (st : State) (act : Act) (u : List ℕ) → m ≡ Ok (variant.Went c st act) → u ≡ applied_in act t → Reading x t₀ first u st c.at (i + 1)
       reading-on c st act u y w = record { long = ap length w ∙ length-applied act t ∙ q.long; same = rw w (rw y at look) }
 
 pub ruleset readings = (reading-start, reading-end, reading-over, reading-refused, reading-on, rules)
 
-pub ruleset next-readings = (reading-on)
-
 -- the file's record first
-pub all-is : (x t₀ t₁ t₂ : List ℕ) (c : Section) (st : State) (r : answer.ReadAnswer) → c ≡ section_in sections 0 → t₁ ≡ add_in t₀ c → st ≡ state 0 0 0 0 → out_of r t₂ ≡ read_from_in (length x + 1) x 0 st t₁ → out_of r t₂ ≡ read_in x t₀
+pub all-is : (x t₀ t₁ t₂ : List ℕ) (c : Section) (st : State) (r : Result (Unit {0}) Refusal) → c ≡ section_in sections 0 → t₁ ≡ add_in t₀ c → st ≡ state 0 0 0 0 → out_of r t₂ ≡ read_from_in (length x + 1) x 0 st t₁ → out_of r t₂ ≡ read_in x t₀
 unfolding read_in
 all-is x t₀ t₁ t₂ c st r p q u w = w ∙ rw (u, q, p)
 
@@ -191,25 +180,25 @@ module _ (x t : List ℕ) where
     into-is = rw (room-is, le-ltb (length t) 42578 h)
 
     -- t₁ is the cleared slice, r what `read_all` gave and t₂ what it left
-    module _ (t₁ t₂ : List ℕ) (z : t₁ ≡ replicate (length t) 0) (r : answer.ReadAnswer) (p : out_of r t₂ ≡ read_in x t₁) where
+    module _ (t₁ t₂ : List ℕ) (z : t₁ ≡ replicate (length t) 0) (r : Result (Unit {0}) Refusal) (p : out_of r t₂ ≡ read_in x t₁) where
       cleared : CellsOf (length t) (read x) (out_of r t₂)
       cleared = rw (p, z) (read-encode (length t) x (omega (arith, room-is)))
 
-      pub into-accepted : r ≡ ended.Accepted → accepted t₂ ≡ read_into x t
-      into-accepted y = by_answer (read x) (rw y at cleared) ∙ into-is where
+      pub into-accepted : (u : Unit {0}) → r ≡ Ok u → accepted t₂ ≡ read_into x t
+      into-accepted u y = by_answer (read x) (rw y at cleared) ∙ into-is where
         by_answer : (a : Answer (List (List (List ℕ)))) → CellsOf (length t) a (accepted t₂) → accepted t₂ ≡ left (length t) a
         by_answer (given d) q = q
         by_answer (text.refused k m) q = absurd (given-is-none k m q)
 
-      pub into-refused : (n m : ℕ) (t₃ : List ℕ) → r ≡ ended.Refused n m → t₃ ≡ replicate (length t₂) 0 → refusing n m t₃ ≡ read_into x t
-      into-refused n m t₃ y w = rw (w, long y) (by_answer (read x) (rw y at cleared)) ∙ into-is where
-        long : r ≡ ended.Refused n m → length t₂ ≡ length t
+      pub into-refused : (d : Refusal) (t₃ : List ℕ) → r ≡ Err d → t₃ ≡ replicate (length t₂) 0 → refusing d.no d.place t₃ ≡ read_into x t
+      into-refused d t₃ y w = rw (w, long y) (by_answer (read x) (rw y at cleared)) ∙ into-is where
+        long : r ≡ Err d → length t₂ ≡ length t
         long e =
-            let q : refusing n m t₂ ≡ read_in x t₁ = rw e at p in
+            let q : refusing d.no d.place t₂ ≡ read_in x t₁ = rw e at p in
             ap (λ (o : Out). length o.cells) q ∙ read-long x t₁ ∙ ap length z ∙ length-replicate (length t) 0
 
-        by_answer : (a : Answer (List (List (List ℕ)))) → CellsOf (length t) a (refusing n m t₂) → refusing n m (replicate (length t) 0) ≡ left (length t) a
-        by_answer (given d) q = absurd (given-is-none n m (sym (ap (λ (o : Out). o.answer) q)))
+        by_answer : (a : Answer (List (List (List ℕ)))) → CellsOf (length t) a (refusing d.no d.place t₂) → refusing d.no d.place (replicate (length t) 0) ≡ left (length t) a
+        by_answer (given g) q = absurd (given-is-none d.no d.place (sym (ap (λ (o : Out). o.answer) q)))
         by_answer (text.refused k i) q = ap (λ (u : Answer (Unit {0})). record { answer = u; cells = replicate (length t) 0 }) q
 
 pub ruleset intos = (into-short, into-accepted, into-refused, rules)

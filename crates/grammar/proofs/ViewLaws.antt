@@ -1,7 +1,5 @@
 -- What can be asked of the records, and writing into them, by the branches that the code takes.
-use Prim.Native.Nat.{ℕ, zero, suc, ◌+◌, ◌-◌, ◌≤◌, ◌<◌, min}
-use lib.Dec.{eqb}
-use Rattle.number.specs.Decimal.{Scaled}
+use Prim.Native.Nat.{ℕ, zero, suc, ◌+◌, ◌-◌, ◌≤◌, ◌<◌}
 use Rattle.number.specs.Most.{most_objects, most_methods, most_tables, most_layouts, most_entries, most_axes}
 use mathlib.Core.Path.{◌≡◌, refl, sym, ◌∙◌, ap}
 use mathlib.Core.List.{List, [], ◌∷◌, ◌++◌}
@@ -15,7 +13,7 @@ use lib.Seq.{take-nil}
 use Rattle.records.specs.Cells.{section_in, count_in, slot_in, put_in, add_in}
 use Rattle.records.specs.declared.Section.{Section}
 use Rattle.rows.specs.Sections.{sections}
-use Rattle.grammar.specs.Move.{view_in, current, decimal_slots, values, puts_in, applied_in}
+use Rattle.grammar.specs.Move.{view_in, current, values, puts_in, applied_in}
 use Rattle.grammar.specs.declared.state.Act.{Act}
 
 abbrev sec : ℕ → ℕ → ℕ → Section
@@ -83,12 +81,6 @@ pub current-is : (t : List ℕ) (j k n b v : ℕ) → n ≡ count_in t (section_
 current-is t j k n b v p q r = rw (r, q, p)
 
 -- c is what `section_of` gave
-pub decimal-is : (t : List ℕ) (j i k : ℕ) (c : Section) (s w p q : ℕ) → c ≡ section_in sections j → s ≡ slot_in t c i k → w ≡ slot_in t c i (k + 1) → p ≡ slot_in t c i (k + 2) → q ≡ min p 7
-    → ◌≡◌ {A = Scaled} (record { negative = eqb s 1; whole = w; tens = q }) (decimal_slots (view_in t) j i k)
-decimal-is t j i k c s w p q z a b d e = rw (a, b, e, d, z)
-
-pub ruleset decimal-views = (decimal-is, rules)
-
 pub ruleset views = (count-is, slot_is, current-is, rules)
 
 -- nothing is left to take

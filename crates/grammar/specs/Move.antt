@@ -1,10 +1,11 @@
 -- What a token leads to: the next state and what is written into the records, or a refusal.
-use Rattle.std.specs.Prelude.{ℕ, suc, ◌+◌, ◌-◌, min, List, [], ◌∷◌, take, eqb}
+use Rattle.std.specs.Prelude.{ℕ, suc, ◌+◌, ◌-◌, min, List, [], ◌∷◌, take, eqb, Result, Ok, Err}
 use Rattle.number.specs.Decimal.{Scaled}
 use Rattle.records.specs.Records.{count, slot, put, add}
 use Rattle.records.specs.Cells.{section_in, count_in, slot_in, put_in, add_in}
 use Rattle.records.specs.declared.Section.{Section}
 use Rattle.rows.specs.Sections.{sections, none}
+use Rattle.text.specs.declared.cursor.Refusal.{Refusal}
 use Rattle.grammar.specs.declared.state.State.{State}
 use Rattle.grammar.specs.declared.state.Act.{Act}
 use Rattle.grammar.specs.declared.state.Move as code
@@ -75,10 +76,10 @@ pub data Move : Type 0 where
   refused : (number place : ℕ) → Move
 
 -- what the code's `Move` answers
-abbrev pub moved : code.Move → Move
-moved (variant.Went c s a) = went c.at s a
-moved variant.Over = over
-moved (variant.Refused n p) = refused n p
+abbrev pub moved : Result code.Move Refusal → Move
+moved (Ok (variant.Went c s a)) = went c.at s a
+moved (Ok variant.Over) = over
+moved (Err r) = refused r.no r.place
 
 -- ---- the same on cells
 

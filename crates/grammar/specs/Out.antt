@@ -1,5 +1,5 @@
 -- What reading a description into lent cells answers and leaves.
-use Rattle.std.specs.Prelude.{ℕ, zero, suc, ◌+◌, List, cond, length, replicate, ltb}
+use Rattle.std.specs.Prelude.{ℕ, zero, suc, ◌+◌, List, cond, length, replicate, ltb, Result, Ok, Err}
 use Rattle.text.specs.Answer.{Answer, given}
 use Rattle.text.specs.Answer as text
 use Rattle.records.specs.Cells.{room, encode, section_in, add_in}
@@ -8,8 +8,7 @@ use Rattle.rows.specs.Sections.{sections, file}
 use Rattle.grammar.specs.Move.{view_in, state, items, applied_in, Move, went, over, refused}
 use Rattle.grammar.specs.Read.{move, read}
 use Rattle.grammar.specs.declared.state.State.{State}
-use Rattle.grammar.specs.declared.state.ReadAnswer as code
-use Rattle.grammar.specs.declared.state.ReadAnswer.TheVariants as variant
+use Rattle.text.specs.declared.cursor.Refusal.{Refusal}
 
 -- accepted, or a refusal's number and place; and what the cells hold
 pub record Out : Type 0 where
@@ -22,10 +21,10 @@ accepted t = record { answer = given tt; cells = t }
 abbrev pub refusing : ℕ → ℕ → List ℕ → Out
 refusing n p t = record { answer = text.refused n p; cells = t }
 
--- what `ReadAnswer` answers, beside the cells
-abbrev pub out_of : code.ReadAnswer → List ℕ → Out
-out_of variant.Accepted t = accepted t
-out_of (variant.Refused n p) t = refusing n p t
+-- what a reading answers, beside the cells
+abbrev pub out_of : Result (Unit {0}) Refusal → List ℕ → Out
+out_of (Ok u) t = accepted t
+out_of (Err r) t = refusing r.no r.place t
 
 -- an accepted description leaves its records in the cells, a refused one zeros
 abbrev pub left : ℕ → Answer (List (List (List ℕ))) → Out

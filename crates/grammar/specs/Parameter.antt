@@ -1,5 +1,5 @@
 -- A token where a parameter is expected (document 01, "Words and numbers" and "Numbers we answer with").
-use Rattle.std.specs.Prelude.{ℕ, zero, suc, ◌-◌, min, List, Bool, false, cond, not, ◌&&◌, ◌||◌, ltb, leb, eqb}
+use Rattle.std.specs.Prelude.{ℕ, zero, suc, ◌-◌, min, List, Bool, false, cond, not, ◌&&◌, ◌||◌, ltb, leb, eqb, Option, Some, None}
 use Rattle.text.specs.Answer.{kind_number}
 use Rattle.text.specs.Answer as piece
 use Rattle.text.specs.Bytes.{same_part}
@@ -17,8 +17,6 @@ use Rattle.rows.specs.Kinds.{name_kind, string_kind, whole_kind, choice_kind, ne
 use Rattle.rows.specs.Numbered.{param_at}
 use Rattle.rows.specs.Slots.{own_name, own_name_past, first_held, entry_sign, entry_size, entry_text}
 use Rattle.grammar.specs.Move.{View, current, decimal_slots, state, items, idle, writes, Move, went, refused}
-use Rattle.grammar.specs.declared.names.Found.{Found}
-use Rattle.grammar.specs.declared.names.Found.TheVariants as found
 use Rattle.grammar.specs.declared.state.State.{State}
 use Rattle.grammar.specs.declared.state.Act.{Act}
 
@@ -148,10 +146,10 @@ taken_number x v s a e =
 
 -- ---- names
 
--- what `Found` answers: the record's number plus one, 0 for none
-abbrev pub found_at : Found → ℕ
-found_at (found.At i) = suc i
-found_at found.Nothing = 0
+-- what a search answers: the record's number plus one, 0 for none
+abbrev pub found_at : Option ℕ → ℕ
+found_at (Some i) = suc i
+found_at None = 0
 
 -- the first record of section j, from i on, whose name is the bytes from a up to e; its number plus one, 0 for none
 unfoldable pub find_from : ℕ → List ℕ → View → ℕ → ℕ → ℕ → ℕ → ℕ

@@ -7,20 +7,13 @@ use crate::view::section_of;
 use records::get;
 use text::bytes::{byte_at, is_like, one_before};
 
-// Where a name was found.
-#[derive(Clone, Copy)]
-pub enum Found {
-    At(u16),
-    Nothing,
-}
-
 // The first record of section j whose name is the bytes from a up to e, compared from the last byte backward.
 // A record's first two cells, at and at + 1, are its name's first byte and the place past it (OWN_NAME, OWN_NAME_PAST).
-pub fn find(x: &[u8], t: &[u64], j: u8, a: usize, e: usize) -> Found
+pub fn find(x: &[u8], t: &[u64], j: u8, a: usize, e: usize) -> Option<u16>
     ensures { found_at result ≡ find x.now (view_in t.now) j a e }
 {
     if e < a {
-        return Found::Nothing;
+        return None;
     }
     let c = section_of(j);
     let count = records::count(t, c);
@@ -31,7 +24,7 @@ pub fn find(x: &[u8], t: &[u64], j: u8, a: usize, e: usize) -> Found
     let mut at = (c.base as usize) + 1;
     'records: loop {
         if count <= i {
-            break Found::Nothing;
+            break None;
         }
         let from = get(t, at) as usize;
         let to = get(t, at + 1) as usize;
@@ -39,7 +32,7 @@ pub fn find(x: &[u8], t: &[u64], j: u8, a: usize, e: usize) -> Found
             let mut k = n;
             loop {
                 if k == 0 {
-                    break 'records Found::At(i);
+                    break 'records Some(i);
                 }
                 if byte_at(x, from) != first {
                     break;

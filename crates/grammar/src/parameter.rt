@@ -1,23 +1,21 @@
 // A token where a parameter is expected.
-ghost use Rattle.std.specs.Prelude.{◌≡◌, ◌||◌, ◌-◌, ◌<◌, min, eqb};
+ghost use Rattle.std.specs.Prelude.{◌≡◌, ◌||◌, ◌-◌, eqb};
 ghost use Rattle.convert.specs.Limit.{at_most};
 ghost use Rattle.number.specs.Told.{scaled};
 ghost use Rattle.words.specs.Kind.{taken_choice};
 ghost use Rattle.words.specs.Class.{class_at};
-ghost use Rattle.grammar.specs.Move.{view_in, state, idle, writes, went, moved};
+ghost use Rattle.grammar.specs.Move.{view_in, writes, went, moved};
 ghost use Rattle.grammar.specs.Parameter.{sec_of, slot_of, wrong, after, keeping, sign_of, taken_whole, taken_pairs, decimal_in, has_entry, twice, new_record, taken_entry, taken_decimal, of_pairs, of_whole, of_decimal, taken_number, taken_new, of_choice, taken_name, after_text, taken_text, taken};
 
-use crate::names::{Found, find};
+use crate::names::find;
 use crate::state::{Act, ITEMS, Move, State};
-use crate::view::{
-    ENTRY, NONE, TABLE, before, count_of, current_of, decimal_slots, section_of, slot_of,
-};
+use crate::view::{ENTRY, TABLE, before, count_of, current_of, decimal_slots, section_of, slot_of};
 use number::decimal::{Decimal, DecimalAnswer};
 use number::whole::WholeAnswer;
 use rows::cells::{LIMIT_HIGH, LIMIT_LOW, PARAM_KIND, PARAM_NEXT, PARAM_SEC, PARAM_SLOT};
 use rows::slots::{ENTRY_SIGN, ENTRY_SIZE, ENTRY_TEXT, FIRST_HELD};
 use rows::{limit_cell, param_cell};
-use text::cursor::Cursor;
+use text::cursor::{Cursor, Refusal};
 use words::class::Class;
 
 // The kinds of a piece.
@@ -36,56 +34,28 @@ const MOST_POINTS: u64 = 256;
 
 const MOST_ENTRIES: u16 = 1024;
 
-// What is expected next.
-pub fn state_of(mode: u8, block: u8, param: u8, left: u16) -> State
-    ensures { result ≡ state mode block param left }
-{
-    State {
-        mode,
-        block,
-        param,
-        left,
-    }
-}
-
 // On to a place, with what is expected there and what is written.
-pub fn go(next: usize, state: State, act: Act) -> Move
+pub fn go(next: usize, state: State, act: Act) -> Result<Move, Refusal>
     ensures { moved result ≡ went next state act }
 {
-    Move::Went {
+    Ok(Move::Went {
         next: Cursor { at: next },
         state,
         act,
-    }
+    })
 }
 
-// Nothing is written.
-pub fn nothing() -> Act
-    ensures { result ≡ idle }
-{
-    Act {
-        adds: NONE,
-        sec: NONE,
-        slot: 0,
-        many: 0,
-        a: 0,
-        b: 0,
-        c: 0,
-        d: 0,
-    }
-}
-
-// A refusal of a piece that is not wanted; a number outside its form goes first.
-pub fn refuse(no: u8, x: &[u8], k: u8, a: usize, e: usize) -> Move
+// A refusal, of any number, of a piece that is not wanted; a number outside its form goes first.
+pub fn refuse(no: u8, x: &[u8], k: u8, a: usize, e: usize) -> Result<Move, Refusal>
     ensures { moved result ≡ wrong «no» x.now k a e }
 {
     if k == NUMBER {
         if runs::form::has_form(x, a, e) {
-            return Move::Refused { no, place: a };
+            return Err(Refusal { no, place: a });
         }
-        return Move::Refused { no: 2, place: a };
+        return Err(Refusal { no: 2, place: a });
     }
-    Move::Refused { no, place: a }
+    Err(Refusal { no, place: a })
 }
 
 // The state after a parameter.
@@ -94,9 +64,8 @@ fn after_of(s: State) -> State
 {
     State {
         mode: ITEMS,
-        block: s.block,
         param: param_cell(s.param, PARAM_NEXT),
-        left: s.left,
+        ..s
     }
 }
 
@@ -106,17 +75,16 @@ fn kept(s: State, many: u8, x: u64, y: u64, z: u64) -> Act
 {
     let slot = param_cell(s.param, PARAM_SLOT);
     if slot == 0 {
-        return nothing();
+        return Act::nothing();
     }
     Act {
-        adds: NONE,
         sec: param_cell(s.param, PARAM_SEC),
         slot,
         many,
         a: x,
         b: y,
         c: z,
-        d: 0,
+        ..Act::nothing()
     }
 }
 
@@ -124,60 +92,44 @@ fn kept(s: State, many: u8, x: u64, y: u64, z: u64) -> Act
 fn is_alignment(n: u64) -> bool
     ensures { result ≡ (eqb n 1 || eqb n 2 || eqb n 4 || eqb n 8) }
 {
-    (n == 1) | (n == 2) | (n == 4) | (n == 8)
+    matches!(n, 1 | 2 | 4 | 8)
 }
 
 // A whole number in its parameter's place.
-fn taken_whole(s: State, a: usize, e: usize, n: u64) -> Move
+fn taken_whole(s: State, a: usize, e: usize, n: u64) -> Result<Move, Refusal>
     ensures { moved result ≡ taken_whole s a e n }
 {
     let kind = param_cell(s.param, PARAM_KIND);
     if n < limit_cell(s.param, LIMIT_LOW) {
-        return Move::Refused { no: 2, place: a };
+        return Err(Refusal { no: 2, place: a });
     }
     if (kind == rows::kinds::POINTS) & (MOST_POINTS < n) {
-        return Move::Refused { no: 8, place: a };
+        return Err(Refusal { no: 8, place: a });
     }
     if (kind == rows::kinds::ALIGNMENT) & !is_alignment(n) {
-        return Move::Refused { no: 2, place: a };
+        return Err(Refusal { no: 2, place: a });
     }
     go(e, after_of(s), kept(s, 1, n, 0, 0))
 }
 
-// How many pairs are left.
-fn pairs_left(n: u64) -> u16
-    ensures { result ≡ min n 65535 }
-{
-    if n < 65535 { n as u16 } else { 65535 }
-}
-
-// How many pairs follow.
-fn taken_pairs(s: State, e: usize, n: u64) -> Move
+// How many pairs follow, at most 65535.
+fn taken_pairs(s: State, e: usize, n: u64) -> Result<Move, Refusal>
     ensures { moved result ≡ taken_pairs s e n }
 {
     let block = s.block;
     if n == 0 {
-        return go(e, state_of(ITEMS, block, 0, 0), kept(s, 1, n, 0, 0));
+        return go(e, State::new(ITEMS, block, 0, 0), kept(s, 1, n, 0, 0));
     }
-    go(
-        e,
-        state_of(ITEMS, block, param_cell(s.param, PARAM_NEXT), pairs_left(n)),
-        kept(s, 1, n, 0, 0),
-    )
+    let left = n.min(65535) as u16;
+    let state = State::new(ITEMS, block, param_cell(s.param, PARAM_NEXT), left);
+    go(e, state, kept(s, 1, n, 0, 0))
 }
 
 // The sign of a decimal as a number.
 fn sign_of(d: Decimal) -> u64
     ensures { result ≡ sign_of (scaled d) }
 {
-    if d.negative { 1 } else { 0 }
-}
-
-// The slot three before another.
-fn three_before(k: u8) -> u8
-    ensures { result ≡ k - 3 }
-{
-    if k < 3 { 0 } else { k - 3 }
+    u64::from(d.negative)
 }
 
 // The decimal in three slots of the current record of section j.
@@ -192,13 +144,12 @@ fn has_number(t: &[u64], sign: u64, size: u64) -> bool
     ensures { result ≡ twice (view_in t.now) sign size }
 {
     let count = count_of(t, ENTRY) as u64;
-    let mut i = current_of(t, TABLE, FIRST_HELD);
-    while i < count {
+    let first = current_of(t, TABLE, FIRST_HELD);
+    for i in first..count {
         let k = i as u16;
         if (slot_of(t, ENTRY, k, ENTRY_SIGN) == sign) & (slot_of(t, ENTRY, k, ENTRY_SIZE) == size) {
             return true;
         }
-        i += 1;
     }
     false
 }
@@ -210,29 +161,29 @@ fn record_of(j: u8, many: u8, a: u64, b: u64, c: u64, d: u64) -> Act
     Act {
         adds: j,
         sec: j,
-        slot: 0,
         many,
         a,
         b,
         c,
         d,
+        ..Act::nothing()
     }
 }
 
 // The number of a pair.
-fn taken_entry(t: &[u64], s: State, a: usize, e: usize, d: Decimal) -> Move
+fn taken_entry(t: &[u64], s: State, a: usize, e: usize, d: Decimal) -> Result<Move, Refusal>
     ensures { moved result ≡ taken_entry (view_in t.now) s a e (scaled d) }
 {
     if d.tens != 0 {
-        return Move::Refused { no: 2, place: a };
+        return Err(Refusal { no: 2, place: a });
     }
     let sign = sign_of(d);
     let whole = d.whole;
     if has_number(t, sign, whole) {
-        return Move::Refused { no: 6, place: a };
+        return Err(Refusal { no: 6, place: a });
     }
     if MOST_ENTRIES <= count_of(t, ENTRY) {
-        return Move::Refused { no: 8, place: a };
+        return Err(Refusal { no: 8, place: a });
     }
     go(e, after_of(s), record_of(ENTRY, 2, sign, whole, 0, 0))
 }
@@ -241,12 +192,12 @@ fn taken_entry(t: &[u64], s: State, a: usize, e: usize, d: Decimal) -> Move
 fn is_upper(t: &[u64], s: State, d: Decimal) -> bool
     ensures { result ≡ at_most (decimal_in (view_in t.now) (sec_of s) (slot_of s - 3)) (scaled d) }
 {
-    let k = three_before(param_cell(s.param, PARAM_SLOT));
+    let k = param_cell(s.param, PARAM_SLOT).saturating_sub(3);
     convert::limit::at_most(decimal_at(t, param_cell(s.param, PARAM_SEC), k), d)
 }
 
 // A decimal in its parameter's place.
-fn taken_decimal(t: &[u64], s: State, a: usize, e: usize, d: Decimal) -> Move
+fn taken_decimal(t: &[u64], s: State, a: usize, e: usize, d: Decimal) -> Result<Move, Refusal>
     ensures { moved result ≡ taken_decimal (view_in t.now) s a e (scaled d) }
 {
     let kind = param_cell(s.param, PARAM_KIND);
@@ -254,47 +205,47 @@ fn taken_decimal(t: &[u64], s: State, a: usize, e: usize, d: Decimal) -> Move
         return taken_entry(t, s, a, e, d);
     }
     if (kind == rows::kinds::NOUGHT) & (d.whole != 0) {
-        return Move::Refused { no: 9, place: a };
+        return Err(Refusal { no: 9, place: a });
     }
     if (kind == rows::kinds::UPPER) & !is_upper(t, s, d) {
-        return Move::Refused { no: 5, place: a };
+        return Err(Refusal { no: 5, place: a });
     }
     let sign = sign_of(d);
     go(e, after_of(s), kept(s, 3, sign, d.whole, d.tens as u64))
 }
 
 // A number of pairs that was read.
-fn pairs_of(x: &[u8], s: State, a: usize, e: usize) -> Move
+fn pairs_of(x: &[u8], s: State, a: usize, e: usize) -> Result<Move, Refusal>
     ensures { moved result ≡ of_pairs x.now s a e }
 {
     match runs::whole::whole_in(x, a, e, limit_cell(s.param, LIMIT_HIGH)) {
         WholeAnswer::Number(n) => taken_pairs(s, e, n),
-        WholeAnswer::Refused { no } => Move::Refused { no, place: a },
+        WholeAnswer::Refused { no } => Err(Refusal { no, place: a }),
     }
 }
 
 // A whole number that was read.
-fn whole_of(x: &[u8], s: State, a: usize, e: usize) -> Move
+fn whole_of(x: &[u8], s: State, a: usize, e: usize) -> Result<Move, Refusal>
     ensures { moved result ≡ of_whole x.now s a e }
 {
     match runs::whole::whole_in(x, a, e, limit_cell(s.param, LIMIT_HIGH)) {
         WholeAnswer::Number(n) => taken_whole(s, a, e, n),
-        WholeAnswer::Refused { no } => Move::Refused { no, place: a },
+        WholeAnswer::Refused { no } => Err(Refusal { no, place: a }),
     }
 }
 
 // A decimal that was read.
-fn decimal_of(x: &[u8], t: &[u64], s: State, a: usize, e: usize) -> Move
+fn decimal_of(x: &[u8], t: &[u64], s: State, a: usize, e: usize) -> Result<Move, Refusal>
     ensures { moved result ≡ of_decimal x.now (view_in t.now) s a e }
 {
     match decimals::decimal_in(x, a, e) {
         DecimalAnswer::Number(d) => taken_decimal(t, s, a, e, d),
-        DecimalAnswer::Refused { no } => Move::Refused { no, place: a },
+        DecimalAnswer::Refused { no } => Err(Refusal { no, place: a }),
     }
 }
 
 // A number in its parameter's place.
-fn taken_number(x: &[u8], t: &[u64], s: State, a: usize, e: usize) -> Move
+fn taken_number(x: &[u8], t: &[u64], s: State, a: usize, e: usize) -> Result<Move, Refusal>
     ensures { moved result ≡ taken_number x.now (view_in t.now) s a e }
 {
     let kind = param_cell(s.param, PARAM_KIND);
@@ -311,7 +262,7 @@ fn taken_number(x: &[u8], t: &[u64], s: State, a: usize, e: usize) -> Move
 }
 
 // A new record of section j, with its name, how many records it may hold stand before, and its block's word.
-fn made(t: &[u64], s: State, a: usize, e: usize, j: u8) -> Move
+fn made(t: &[u64], s: State, a: usize, e: usize, j: u8) -> Result<Move, Refusal>
     ensures { moved result ≡ went e (after s) (new_record j 4 a e ((view_in t.now).counts (slot_of s)) s.block) }
 {
     let held = count_of(t, param_cell(s.param, PARAM_SLOT)) as u64;
@@ -320,48 +271,45 @@ fn made(t: &[u64], s: State, a: usize, e: usize, j: u8) -> Move
 }
 
 // The name of a new record.
-fn taken_new(x: &[u8], t: &[u64], s: State, a: usize, e: usize) -> Move
+fn taken_new(x: &[u8], t: &[u64], s: State, a: usize, e: usize) -> Result<Move, Refusal>
     ensures { moved result ≡ taken_new x.now (view_in t.now) s a e }
 {
     let j = param_cell(s.param, PARAM_SEC);
-    let Found::Nothing = find(x, t, j, a, e) else {
-        return Move::Refused { no: 6, place: a };
-    };
+    if find(x, t, j, a, e).is_some() {
+        return Err(Refusal { no: 6, place: a });
+    }
     let c = section_of(j);
     if c.most <= count_of(t, j) {
-        return Move::Refused { no: 8, place: a };
+        return Err(Refusal { no: 8, place: a });
     }
     made(t, s, a, e, j)
 }
 
 // A choice that document 01 takes.
-fn chosen(s: State, a: usize, e: usize, c: u8) -> Move
+fn chosen(s: State, a: usize, e: usize, c: u8) -> Result<Move, Refusal>
     ensures { moved result ≡ of_choice s a e (taken_choice c) }
 {
     let n = c as u64;
     if (limit_cell(s.param, LIMIT_LOW) <= n) & (n <= limit_cell(s.param, LIMIT_HIGH)) {
         return go(e, after_of(s), kept(s, 1, n, 0, 0));
     }
-    Move::Refused { no: 5, place: a }
+    Err(Refusal { no: 5, place: a })
 }
 
 // A word where a choice is expected.
-fn choice_of(x: &[u8], s: State, a: usize, e: usize) -> Move
+fn choice_of(x: &[u8], s: State, a: usize, e: usize) -> Result<Move, Refusal>
     ensures { moved result ≡ of_choice s a e (class_at x.now a e) }
 {
     match words::class::class_of(x, a, e) {
         Class::TakenChoice(c) => chosen(s, a, e, c),
-        Class::TakenBlock(_) => Move::Refused { no: 5, place: a },
-        Class::TakenPlain(_) => Move::Refused { no: 5, place: a },
-        Class::SkippedBlock(_) => Move::Refused { no: 5, place: a },
-        Class::SkippedPlain(_) => Move::Refused { no: 5, place: a },
-        Class::ListedOnly => Move::Refused { no: 9, place: a },
-        Class::Unlisted => Move::Refused { no: 4, place: a },
+        Class::ListedOnly => Err(Refusal { no: 9, place: a }),
+        Class::Unlisted => Err(Refusal { no: 4, place: a }),
+        _ => Err(Refusal { no: 5, place: a }),
     }
 }
 
 // A name in its parameter's place.
-fn taken_name(x: &[u8], t: &[u64], s: State, a: usize, e: usize) -> Move
+fn taken_name(x: &[u8], t: &[u64], s: State, a: usize, e: usize) -> Result<Move, Refusal>
     ensures { moved result ≡ taken_name x.now (view_in t.now) s a e }
 {
     let kind = param_cell(s.param, PARAM_KIND);
@@ -374,23 +322,14 @@ fn taken_name(x: &[u8], t: &[u64], s: State, a: usize, e: usize) -> Move
     go(e, after_of(s), kept(s, 2, a as u64, e as u64, 0))
 }
 
-// The number before n, 0 before 0.
-fn one_before(n: u8) -> u8
-    ensures { result ≡ n - 1 }
-{
-    if n == 0 { 0 } else { n - 1 }
-}
-
 // The state after a pair's text.
 fn after_text(s: State) -> State
     ensures { result ≡ after_text s }
 {
-    let block = s.block;
-    let left = s.left;
-    if 1 < left {
-        return state_of(ITEMS, block, one_before(s.param), left - 1);
+    if 1 < s.left {
+        return State::new(ITEMS, s.block, s.param.saturating_sub(1), s.left - 1);
     }
-    state_of(ITEMS, block, 0, 0)
+    State::new(ITEMS, s.block, 0, 0)
 }
 
 // The text of a pair, into its entry.
@@ -398,19 +337,17 @@ fn text_act(a: u64, e: u64) -> Act
     ensures { result ≡ writes 3 2 2 a e 0 }
 {
     Act {
-        adds: NONE,
         sec: ENTRY,
         slot: ENTRY_TEXT,
         many: 2,
         a,
         b: e,
-        c: 0,
-        d: 0,
+        ..Act::nothing()
     }
 }
 
 // A string in its parameter's place.
-fn taken_text(s: State, a: usize, e: usize) -> Move
+fn taken_text(s: State, a: usize, e: usize) -> Result<Move, Refusal>
     ensures { moved result ≡ taken_text s a e }
 {
     if param_cell(s.param, PARAM_KIND) == rows::kinds::TEXT {
@@ -420,7 +357,7 @@ fn taken_text(s: State, a: usize, e: usize) -> Move
 }
 
 // A piece where a parameter is expected.
-pub fn taken(x: &[u8], t: &[u64], s: State, k: u8, a: usize, e: usize) -> Move
+pub fn taken(x: &[u8], t: &[u64], s: State, k: u8, a: usize, e: usize) -> Result<Move, Refusal>
     ensures { moved result ≡ taken x.now (view_in t.now) s k a e }
 {
     let kind = param_cell(s.param, PARAM_KIND);
@@ -439,5 +376,5 @@ pub fn taken(x: &[u8], t: &[u64], s: State, k: u8, a: usize, e: usize) -> Move
     if k == NUMBER {
         return taken_number(x, t, s, a, e);
     }
-    Move::Refused { no: 5, place: a }
+    Err(Refusal { no: 5, place: a })
 }

@@ -1,4 +1,8 @@
 // What the reader expects next, what a token writes, and what a token leads to.
+ghost use Rattle.std.specs.Prelude.{◌≡◌};
+ghost use Rattle.grammar.specs.Move.{state, idle};
+
+use crate::view::NONE;
 use text::cursor::Cursor;
 
 // Where a keyword, the word after `/begin`, the word after `/end`, or nothing more is expected.
@@ -19,6 +23,20 @@ pub struct State {
     pub left: u16,
 }
 
+impl State {
+    // What is expected next.
+    pub fn new(mode: u8, block: u8, param: u8, left: u16) -> State
+        ensures { result ≡ state mode block param left }
+    {
+        State {
+            mode,
+            block,
+            param,
+            left,
+        }
+    }
+}
+
 // A record more in section adds; then the first `many` of a, b, c, d in the current record of a section from a slot on.
 #[derive(Clone, Copy)]
 pub struct Act {
@@ -32,7 +50,25 @@ pub struct Act {
     pub d: u64,
 }
 
-// On, with the next place, what is expected there and what is written; the text is over; or a refusal.
+impl Act {
+    // Nothing is written.
+    pub fn nothing() -> Act
+        ensures { result ≡ idle }
+    {
+        Act {
+            adds: NONE,
+            sec: NONE,
+            slot: 0,
+            many: 0,
+            a: 0,
+            b: 0,
+            c: 0,
+            d: 0,
+        }
+    }
+}
+
+// On, with the next place, what is expected there and what is written; or the text is over.
 #[derive(Clone, Copy)]
 pub enum Move {
     Went {
@@ -41,15 +77,4 @@ pub enum Move {
         act: Act,
     },
     Over,
-    Refused {
-        no: u8,
-        place: usize,
-    },
-}
-
-// The description was read, or a refusal.
-#[derive(Clone, Copy)]
-pub enum ReadAnswer {
-    Accepted,
-    Refused { no: u8, place: usize },
 }

@@ -70,7 +70,7 @@ pub fn slot_of(t: &[u64], j: u8, i: u16, k: u16) -> u64
 pub fn before(n: u16) -> u16
     ensures { result ≡ n - 1 }
 {
-    if n == 0 { 0 } else { n - 1 }
+    n.saturating_sub(1)
 }
 
 // Number k of the current record of section j.
@@ -80,14 +80,7 @@ pub fn current_of(t: &[u64], j: u8, k: u16) -> u64
     slot_of(t, j, before(count_of(t, j)), k)
 }
 
-// At most 7, as a power of ten.
-fn power_of(n: u64) -> u32
-    ensures { result ≡ min n 7 }
-{
-    if n < 7 { n as u32 } else { 7 }
-}
-
-// The decimal in three slots of record i of section j.
+// The decimal in three slots of record i of section j; the power of ten is at most 7.
 pub fn decimal_slots(t: &[u64], j: u8, i: u16, k: u8) -> Decimal
     ensures { scaled result ≡ decimal_slots (view_in t.now) j i k }
 {
@@ -99,7 +92,7 @@ pub fn decimal_slots(t: &[u64], j: u8, i: u16, k: u8) -> Decimal
     Decimal {
         negative: sign == 1,
         whole,
-        tens: power_of(power),
+        tens: power.min(7) as u32,
     }
 }
 

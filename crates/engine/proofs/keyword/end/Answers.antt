@@ -4,18 +4,6 @@ use Rattle.engine.proofs.keyword.end.Goals as goal
 pub returns-then-block-eq-FILE : goal.returns-then-block-eq-FILE
 returns-then-block-eq-FILE c = search endings
 
-pub all_met-requires : goal.all_met-requires
-all_met-requires c = search endings
-
-pub state_of-requires : goal.state_of-requires
-state_of-requires c = search endings
-
-pub nothing-requires : goal.nothing-requires
-nothing-requires c = search endings
-
-pub go-requires : goal.go-requires
-go-requires c = search endings
-
 pub returns-then-all_met : goal.returns-then-all_met
 returns-then-all_met c = search endings
 

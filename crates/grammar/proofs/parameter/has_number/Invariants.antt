@@ -1,10 +1,6 @@
 use Rattle.grammar.proofs.ParameterLaws.{Having}
 use Rattle.grammar.specs.Move.{view_in}
-use Prim.Native.Nat.{◌-◌}
 use Rattle.grammar.proofs.parameter.has_number.Given as goal
 
 abbrev pub invariant-loop-i : goal.invariant-loop-i
 invariant-loop-i l = Having (view_in l.t) l.sign l.size l.i
-
-abbrev pub decreases-loop-i : goal.decreases-loop-i
-decreases-loop-i l = l.count - l.i

@@ -1,9 +1,6 @@
 use Rattle.grammar.proofs.ParameterLaws.{wrongs}
 use Rattle.grammar.proofs.parameter.refuse.Goals as goal
 
-pub has_form-requires : goal.has_form-requires
-has_form-requires c = search wrongs
-
 pub returns-then-has_form : goal.returns-then-has_form
 returns-then-has_form c = search wrongs
 

@@ -1,35 +1,17 @@
 use Rattle.grammar.proofs.ParameterLaws.{takes}
 use Rattle.grammar.proofs.parameter.taken.Goals as goal
 
-pub param_cell-kind-requires : goal.param_cell-kind-requires
-param_cell-kind-requires c = search takes
-
-pub taken_text-requires : goal.taken_text-requires
-taken_text-requires c = search takes
-
 pub returns-then-k-eq-TEXT : goal.returns-then-k-eq-TEXT
 returns-then-k-eq-TEXT c = search takes
-
-pub refuse-requires : goal.refuse-requires
-refuse-requires c = search takes
 
 pub returns-then-kind : goal.returns-then-kind
 returns-then-kind c = search takes
 
-pub taken_name-requires : goal.taken_name-requires
-taken_name-requires c = search takes
-
 pub returns-then-k-eq-NAME : goal.returns-then-k-eq-NAME
 returns-then-k-eq-NAME c = search takes
 
-pub refuse-requires-then-kind-2 : goal.refuse-requires-then-kind-2
-refuse-requires-then-kind-2 c = search takes
-
 pub returns-then-kind-2 : goal.returns-then-kind-2
 returns-then-kind-2 c = search takes
-
-pub taken_number-requires : goal.taken_number-requires
-taken_number-requires c = search takes
 
 pub returns-then-k-eq-NUMBER : goal.returns-then-k-eq-NUMBER
 returns-then-k-eq-NUMBER c = search takes

@@ -15,7 +15,7 @@ use rows::cells::{
 };
 use rows::slots::OBJECT_TYPE;
 use rows::{NEED_COUNT, ROW_COUNT, is_row, need_cell, row_cell};
-use text::cursor::{Cursor, Reach, Refusal};
+use text::cursor::{Cursor, Refusal};
 use words::class::{Class, class_of};
 use words::codes::{
     AXIS_DESCR, AXIS_PTS, CHARACTERISTIC, COMPU_METHOD, COMPU_VTAB, CURVE, MAP, MEASUREMENT,
@@ -205,6 +205,7 @@ fn levels_in(b: u8) -> u8
 }
 
 // Past the skipped block whose word stands from a up to e.
+#[tactic(auto, unfolding(grammar::specs::Keyword::skips))]
 fn skip(x: &[u8], s: State, a: usize, e: usize) -> Result<Move, Refusal>
     ensures { moved result ≡ skips x.now s a e }
 {
@@ -213,10 +214,8 @@ fn skip(x: &[u8], s: State, a: usize, e: usize) -> Result<Move, Refusal>
         return Err(Refusal { no: 5, place: a });
     }
     let word = Cursor { at: e };
-    match word.skip_block(x, a, levels_in(block)) {
-        Reach::To(past) => go(past.at, State::new(ITEMS, block, 0, 0), Act::nothing()),
-        Reach::Refused { no, place } => Err(Refusal { no, place }),
-    }
+    let past = word.skip_block(x, a, levels_in(block))?;
+    go(past.at, State::new(ITEMS, block, 0, 0), Act::nothing())
 }
 
 // The block of the word c opens.

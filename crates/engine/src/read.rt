@@ -45,14 +45,13 @@ fn move_of(x: &[u8], t: &[u64], s: State, at: usize) -> Result<Move, Refusal>
     ensures { moved result ≡ move x.now (view_in t.now) s at }
 {
     let c = Cursor { at };
-    match c.token(x) {
+    match c.token(x)? {
         Token::Name { start, next } => on_piece(x, t, s, NAME, start, next.at),
         Token::Text { start, next } => on_piece(x, t, s, TEXT, start, next.at),
         Token::Number { start, next } => on_piece(x, t, s, NUMBER, start, next.at),
         Token::Begin { start, next } => on_piece(x, t, s, BEGIN, start, next.at),
         Token::End { start, next } => on_piece(x, t, s, END, start, next.at),
         Token::Finish { place } => on_finish(s, place),
-        Token::Refused { no, place } => Err(Refusal { no, place }),
     }
 }
 

@@ -9,17 +9,12 @@ use borrow.Author.Tests.{lt-ltb, le-ltb, eq-eqb, ne_eqb}
 use lib.Dec.{ltb, eqb}
 use lib.ListN.{length}
 use Rattle.std.proofs.lemmas.Bool.Decides.{nat_tests}
-use Rattle.text.specs.Answer.{reached}
-use Rattle.text.specs.Skip.{skip_block}
-use Rattle.text.specs.declared.cursor.Cursor.{Cursor}
-use Rattle.text.specs.declared.cursor.Reach.{Reach}
-use Rattle.text.specs.declared.cursor.Reach.TheVariants as reach
 use Rattle.words.specs.Class.{class_at}
 use Rattle.rows.specs.Rows.{rows, needed}
 use Rattle.rows.specs.Numbered.{row_at, first_param}
 use Rattle.grammar.specs.Move.{View, state, items, begun, ended, idle, went, refused, moved}
 use Rattle.grammar.specs.Parameter.{wrong}
-use Rattle.grammar.specs.Keyword.{row_from, row_of, may_stand, is_often, one_more, counting, stands, plain_row, bare_word, levels_in, of_skip, skips, opens, begun_word, is_met, all_met, ends, ended_word, item, after_begin, after_end}
+use Rattle.grammar.specs.Keyword.{row_from, row_of, may_stand, is_often, one_more, counting, stands, plain_row, bare_word, opens, begun_word, is_met, all_met, ends, ended_word, item, after_begin, after_end}
 use Rattle.grammar.specs.declared.state.State.{State}
 use Rattle.grammar.specs.declared.state.Act.{Act}
 use Rattle.grammar.proofs.Answered.{Answered}
@@ -109,25 +104,6 @@ module _ (v : View) (s : State) (i a e : ℕ) where
 pub ruleset plains = (plain-none, plain-outside, plain-stands, rules)
 
 -- ---- the word after `/begin`
-
-module _ (x : List ℕ) (s : State) (a e : ℕ) where
-  pub skip-file : s.block ≡ 0 → refused 5 a ≡ skips x s a e
-  unfolding skips
-  skip-file h = rw (eq-eqb s.block 0 h)
-
-  -- r is what `skip_block` gave with n levels, by its cases u
-  module _ (h : s.block ≡ 0 → ⊥) (n : ℕ) (pn : n ≡ levels_in s.block) (r : Reach) (p : reached r ≡ skip_block n x a e) where
-    skip_is : (u : Reach) → r ≡ u → of_skip s (reached u) ≡ skips x s a e
-    unfolding skips
-    skip_is u y = rw (ne_eqb s.block 0 h) (ap (of_skip s) (sym (ap reached y) ∙ (p ∙ ap (λ k. skip_block k x a e) pn)))
-
-    pub skip-to : (c : Cursor) (m : Answered) (st : State) (act : Act) → r ≡ reach.To c → moved m ≡ went c.at st act → st ≡ state items s.block 0 0 → act ≡ idle → moved m ≡ skips x s a e
-    skip-to c m st act y pm ps pa = rw (pm, ps, pa) (skip_is (reach.To c) y)
-
-    pub skip-refused : (k q : ℕ) → r ≡ reach.Refused k q → refused k q ≡ skips x s a e
-    skip-refused k q = skip_is (reach.Refused k q)
-
-pub ruleset skippings = (skip-file, skip-to, skip-refused, rules)
 
 -- i is the row that was found
 module _ (v : View) (s : State) (c a e i : ℕ) (pi : i ≡ row_of s.block c) where

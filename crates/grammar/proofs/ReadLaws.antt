@@ -11,17 +11,14 @@ use lib.ListN.{length, set, replicate, length-set, length-replicate}
 use Rattle.std.specs.Prelude.{Result, Ok, Err}
 use Rattle.text.specs.Answer.{Answer, given, told}
 use Rattle.text.specs.Answer as text
-use Rattle.text.specs.Token.{next_token}
 use Rattle.text.specs.declared.cursor.Cursor.{Cursor}
-use Rattle.text.specs.declared.cursor.Token.{Token}
-use Rattle.text.specs.declared.cursor.Token.TheVariants as token
 use Rattle.records.specs.Cells.{room, section_in, place, count_in, put_in, add_in}
 use Rattle.records.specs.declared.Section.{Section}
 use Rattle.rows.specs.Sections.{sections}
 use Rattle.grammar.specs.Move.{View, view_in, state, items, values, puts_in, added_in, applied_in, Move, went, over, refused, moved}
 use Rattle.grammar.specs.Parameter.{wrong, taken}
 use Rattle.grammar.specs.Keyword.{item, after_begin, after_end}
-use Rattle.grammar.specs.Read.{on_piece, finishing, on_token, move, read}
+use Rattle.grammar.specs.Read.{on_piece, move, read}
 use Rattle.grammar.specs.Out.{Out, accepted, refusing, out_of, left, read_into, following_in, read_from_in, read_in}
 use Rattle.grammar.specs.declared.state.State.{State}
 use Rattle.grammar.proofs.Cells.{CellsOf, read-encode}
@@ -54,36 +51,6 @@ module _ (x : List ℕ) (v : View) (s : State) (k a e : ℕ) (m : Answered) wher
       piece-taken f q p = rw (ne_eqb s.mode 3 h, ne_eqb s.mode 1 g, ne_eqb s.mode 2 f, ne_eqb s.param 0 q, p)
 
 pub ruleset pieces = (piece-over, piece-begun, piece-ended, piece-item, piece-taken, rules)
-
--- r is what `token` gave, by its cases w
-module _ (x : List ℕ) (v : View) (s : State) (k : ℕ) (r : Token) (p : told r ≡ next_token x k) where
-  token-is : (w : Token) → r ≡ w → on_token x v s (told w) ≡ move x v s k
-  unfolding move
-  token-is w y = ap (on_token x v s) (sym (ap told y) ∙ p)
-
-  module _ (a : ℕ) (c : Cursor) (m : Answered) where
-    pub move-name : r ≡ token.Name a c → moved m ≡ on_piece x v s 0 a c.at → moved m ≡ move x v s k
-    move-name y q = q ∙ token-is (token.Name a c) y
-
-    pub move-text : r ≡ token.Text a c → moved m ≡ on_piece x v s 1 a c.at → moved m ≡ move x v s k
-    move-text y q = q ∙ token-is (token.Text a c) y
-
-    pub move-number : r ≡ token.Number a c → moved m ≡ on_piece x v s 2 a c.at → moved m ≡ move x v s k
-    move-number y q = q ∙ token-is (token.Number a c) y
-
-    pub move-begin : r ≡ token.Begin a c → moved m ≡ on_piece x v s 4 a c.at → moved m ≡ move x v s k
-    move-begin y q = q ∙ token-is (token.Begin a c) y
-
-    pub move-end : r ≡ token.End a c → moved m ≡ on_piece x v s 5 a c.at → moved m ≡ move x v s k
-    move-end y q = q ∙ token-is (token.End a c) y
-
-  pub move-finish : (q : ℕ) (m : Answered) → r ≡ token.Finish q → moved m ≡ finishing s q → moved m ≡ move x v s k
-  move-finish q m y z = z ∙ token-is (token.Finish q) y
-
-  pub move-refused : (n q : ℕ) → r ≡ token.Refused n q → refused n q ≡ move x v s k
-  move-refused n q = token-is (token.Refused n q)
-
-pub ruleset moves = (move-name, move-text, move-number, move-begin, move-end, move-finish, move-refused, rules)
 
 -- writing keeps the number of cells
 pub length-put : (t : List ℕ) (c : Section) (i k v : ℕ) → length (put_in t c i k v) ≡ length t

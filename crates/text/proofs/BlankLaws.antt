@@ -8,15 +8,13 @@ use borrow.Author.Rules.{rules}
 use borrow.Author.Tests.{eq-eqb, ne_eqb, eqb-false, leb-true, le-leb, lt-leb, le-ltb}
 use lib.ListN.{length}
 use lib.Dec.{leb, eqb}
+use Rattle.std.specs.Prelude.{Option, Some, None, Result, Ok, Err}
 use Rattle.text.specs.Walk.{on, done}
 use Rattle.text.specs.Answer.{Answer, given, refused, reached, gap_step}
 use Rattle.text.specs.Bytes.{byte, is_blank, is_allowed, pair_at}
 use Rattle.text.specs.Blank.{line_step, line_end, close_step, comment_end, blank_step, blank_at, token_ends}
 use Rattle.text.specs.declared.cursor.Cursor.{Cursor}
-use Rattle.text.specs.declared.cursor.Reach.{Reach}
-use Rattle.text.specs.declared.cursor.Reach.TheVariants.{To, Refused}
-use Rattle.text.specs.declared.cursor.Gap.{Gap}
-use Rattle.text.specs.declared.cursor.Gap.TheVariants as gap
+use Rattle.text.specs.declared.cursor.Refusal.{Refusal}
 use Rattle.text.proofs.Walks.{Same, start, onto, stops, ends}
 use Rattle.text.proofs.ByteLaws.{via, byte_past, pair-other}
 use Rattle.text.proofs.Within.{and_left, and_right, Goes, Blanks, blank-goes}
@@ -130,12 +128,12 @@ module _ (s : List ℕ) (k : ℕ) where
   gap-none b l c = rw (b, l, c)
 
   -- r is what `comment` gave
-  module _ (r : Reach) (b : is_blank (byte s k) ≡ false) (l : pair_at s k 47 47 ≡ false) (c : pair_at s k 47 42 ≡ true) (x : reached r ≡ comment_end s k) where
-    pub gap-comment : (d : Cursor) → r ≡ To d → on d.at ≡ blank_step s k
+  module _ (r : Result Cursor Refusal) (b : is_blank (byte s k) ≡ false) (l : pair_at s k 47 47 ≡ false) (c : pair_at s k 47 42 ≡ true) (x : reached r ≡ comment_end s k) where
+    pub gap-comment : (d : Cursor) → r ≡ Ok d → on d.at ≡ blank_step s k
     gap-comment d y = let z : comment_end s k ≡ given d.at = sym x ∙ ap reached y in rw (b, l, c, z)
 
-    pub gap-open : (n p : ℕ) → r ≡ Refused n p → done (refused n p) ≡ blank_step s k
-    gap-open n p y = let z : comment_end s k ≡ refused n p = sym x ∙ ap reached y in rw (b, l, c, z)
+    pub gap-open : (e : Refusal) → r ≡ Err e → done (refused e.no e.place) ≡ blank_step s k
+    gap-open e y = let z : comment_end s k ≡ refused e.no e.place = sym x ∙ ap reached y in rw (b, l, c, z)
 
 pub ruleset gaps = (gap-end, gap-inner, gap-blank, gap-line, gap-none, gap-comment, gap-open, via, rules)
 
@@ -143,24 +141,24 @@ abbrev pub InBlanks : List ℕ → ℕ → ℕ → Type 0
 InBlanks s at i = Same (Answer ℕ) (length s) (blank_step s) given at i
 
 -- g is what `gap` gave at i
-module _ (s : List ℕ) (i : ℕ) (g : Gap) (x : gap_step i g ≡ blank_step s i) (h : i < length s) where
-  further : (d : Cursor) → g ≡ gap.Past d → i < d.at
-  further d y = (subst (Goes (length s) (Blanks s) i) (sym x ∙ ap (gap_step i) y) (blank-goes s i h)).0
+module _ (s : List ℕ) (i : ℕ) (g : Result (Option Cursor) Refusal) (x : gap_step i g ≡ blank_step s i) (h : i < length s) where
+  further : (o : Option Cursor) (d : Cursor) → g ≡ Ok o → o ≡ Some d → i < d.at
+  further o d y z = (subst (Goes (length s) (Blanks s) i) (sym x ∙ ap (gap_step i) (y ∙ ap Ok z)) (blank-goes s i h)).0
 
-  pub blank-less : (d : Cursor) → g ≡ gap.Past d → length s - d.at < length s - i
-  blank-less d y = omega (arith, further d y)
+  pub blank-less : (o : Option Cursor) (d : Cursor) → g ≡ Ok o → o ≡ Some d → length s - d.at < length s - i
+  blank-less o d y z = omega (arith, further o d y z)
 
   module _ (at : ℕ) (q : InBlanks s at i) where
-    pub blank-on : (d : Cursor) → g ≡ gap.Past d → InBlanks s at d.at
-    blank-on d y = onto q h (sym x ∙ ap (gap_step i) y) (further d y)
+    pub blank-on : (o : Option Cursor) (d : Cursor) → g ≡ Ok o → o ≡ Some d → InBlanks s at d.at
+    blank-on o d y z = onto q h (sym x ∙ ap (gap_step i) (y ∙ ap Ok z)) (further o d y z)
 
-    pub blank_none : g ≡ gap.Nothing → given i ≡ blank_at s at
+    pub blank_none : (o : Option Cursor) → g ≡ Ok o → o ≡ None → given i ≡ blank_at s at
     unfolding blank_at
-    blank_none y = stops q h (sym x ∙ ap (gap_step i) y)
+    blank_none o y z = stops q h (sym x ∙ ap (gap_step i) (y ∙ ap Ok z))
 
-    pub blank-refused : (n p : ℕ) → g ≡ gap.Refused n p → refused n p ≡ blank_at s at
+    pub blank-refused : (e : Refusal) → g ≡ Err e → refused e.no e.place ≡ blank_at s at
     unfolding blank_at
-    blank-refused n p y = stops q h (sym x ∙ ap (gap_step i) y)
+    blank-refused e y = stops q h (sym x ∙ ap (gap_step i) y)
 
 pub blank-last : (s : List ℕ) (at i : ℕ) → InBlanks s at i → length s ≤ i → given i ≡ blank_at s at
 unfolding blank_at

@@ -6,25 +6,25 @@ use mathlib.Core.Bool.{true, false}
 use borrow.Author.Rules.{rules}
 use borrow.Author.Tests.{eq-eqb, ne_eqb, le-leb, lt-leb}
 use lib.ListN.{length}
+use Rattle.std.specs.Prelude.{Result, Ok, Err}
 use Rattle.text.specs.Answer.{given, refused, reached, told_item, piece, finish, run, begin, end}
 use Rattle.text.specs.Bytes.{byte}
 use Rattle.text.specs.Blank.{blank_at}
 use Rattle.text.specs.Token.{string_at, run_end, is_begin, is_end}
 use Rattle.text.specs.Item.{item_of, run_item, item_at, next_item}
 use Rattle.text.specs.declared.cursor.Cursor.{Cursor}
-use Rattle.text.specs.declared.cursor.Reach.{Reach}
-use Rattle.text.specs.declared.cursor.Reach.TheVariants.{To, Refused}
+use Rattle.text.specs.declared.cursor.Refusal.{Refusal}
 use Rattle.text.specs.declared.cursor.Item.{Item}
 use Rattle.text.proofs.ByteLaws.{via}
 use Rattle.text.proofs.TokenLaws.{with-to, with-refused}
 
 -- r is what `past_run` gave
-module _ (s : List ℕ) (k : ℕ) (r : Reach) (p : reached r ≡ run_end s k) where
-  pub run-refused : (n m : ℕ) → r ≡ Refused n m → refused n m ≡ run_item s k
+module _ (s : List ℕ) (k : ℕ) (r : Result Cursor Refusal) (p : reached r ≡ run_end s k) where
+  pub run-refused : (e : Refusal) → r ≡ Err e → refused e.no e.place ≡ run_item s k
   unfolding run_item
-  run-refused n m y = with-refused (run_end s k) (item_of s k) r p n m y
+  run-refused e y = with-refused (run_end s k) (item_of s k) r p e y
 
-  module _ (c : Cursor) (y : r ≡ To c) where
+  module _ (c : Cursor) (y : r ≡ Ok c) where
     pub run-begin : is_begin s k c.at ≡ true → given (piece begin k c.at) ≡ run_item s k
     unfolding run_item
     run-begin b = sym (with-to (run_end s k) (item_of s k) r p c y ∙ rw b)
@@ -44,23 +44,23 @@ module _ (s : List ℕ) (k : ℕ) where
   unfolding item_at
   item-finish h = rw (le-leb (length s) k h)
 
-  pub item-string : (r : Item) → k < length s → byte s k ≡ 34 → told_item r ≡ string_at s k → told_item r ≡ item_at s k
+  pub item-string : (r : Result Item Refusal) → k < length s → byte s k ≡ 34 → told_item r ≡ string_at s k → told_item r ≡ item_at s k
   unfolding item_at
   item-string r h q p = rw (lt-leb (length s) k h, eq-eqb (byte s k) 34 q, p)
 
-  pub item-run : (r : Item) → k < length s → (byte s k ≡ 34 → ⊥) → told_item r ≡ run_item s k → told_item r ≡ item_at s k
+  pub item-run : (r : Result Item Refusal) → k < length s → (byte s k ≡ 34 → ⊥) → told_item r ≡ run_item s k → told_item r ≡ item_at s k
   unfolding item_at
   item-run r h q p = rw (lt-leb (length s) k h, ne_eqb (byte s k) 34 q, p)
 
   -- b is what `blanks` gave
-  module _ (b : Reach) (p : reached b ≡ blank_at s k) where
-    pub next-item : (c : Cursor) (r : Item) → b ≡ To c → told_item r ≡ item_at s c.at → told_item r ≡ next_item s k
+  module _ (b : Result Cursor Refusal) (p : reached b ≡ blank_at s k) where
+    pub next-item : (c : Cursor) (r : Result Item Refusal) → b ≡ Ok c → told_item r ≡ item_at s c.at → told_item r ≡ next_item s k
     unfolding next_item
     next-item c r y x = x ∙ sym (with-to (blank_at s k) (item_at s) b p c y)
 
-    pub next-stopped : (n m : ℕ) → b ≡ Refused n m → refused n m ≡ next_item s k
+    pub next-stopped : (e : Refusal) → b ≡ Err e → refused e.no e.place ≡ next_item s k
     unfolding next_item
-    next-stopped n m y = with-refused (blank_at s k) (item_at s) b p n m y
+    next-stopped e y = with-refused (blank_at s k) (item_at s) b p e y
 
 pub ruleset items = (item-finish, item-string, item-run, via, rules)
 

@@ -7,13 +7,13 @@ use native.Mathlib.Omega.{arith}
 use borrow.Author.Rules.{rules}
 use borrow.Author.Tests.{eq-eqb, ne_eqb, le-leb, lt-leb}
 use lib.ListN.{length}
+use Rattle.std.specs.Prelude.{Result, Ok, Err}
 use Rattle.text.specs.Answer.{Answer, given, refused, with, reached, told, piece, finish, name, string, number, begin, end}
 use Rattle.text.specs.Bytes.{byte, is_allowed, in_name, starts_name, starts_number, pair_at, same_part, spelt}
 use Rattle.text.specs.Blank.{blank_at, token_ends}
 use Rattle.text.specs.Token.{name_step, name_end, name_at, quote_step, string_end, string_at, run_step, run_end, number_at, is_begin, is_end, mark_of, mark_at, token_at, next_token}
 use Rattle.text.specs.declared.cursor.Cursor.{Cursor}
-use Rattle.text.specs.declared.cursor.Reach.{Reach}
-use Rattle.text.specs.declared.cursor.Reach.TheVariants.{To, Refused}
+use Rattle.text.specs.declared.cursor.Refusal.{Refusal}
 use Rattle.text.specs.declared.cursor.Token.{Token}
 use Rattle.text.proofs.Walks.{Same, start, onto, stops, ends}
 use Rattle.text.proofs.ByteLaws.{via}
@@ -107,39 +107,39 @@ module _ (s : List ℕ) (at i : ℕ) (q : InRun s at i) where
 pub ruleset runs = (start, run-last, run-found, run_on, run-bad, via, rules)
 
 -- what follows a place that was reached, x; or the refusal
-module _ {B : Type 0} (x : Answer ℕ) (f : ℕ → Answer B) (r : Reach) (p : reached r ≡ x) where
-  pub with-to : (c : Cursor) → r ≡ To c → with x f ≡ f c.at
+module _ {B : Type 0} (x : Answer ℕ) (f : ℕ → Answer B) (r : Result Cursor Refusal) (p : reached r ≡ x) where
+  pub with-to : (c : Cursor) → r ≡ Ok c → with x f ≡ f c.at
   with-to c y = ap (λ a. with a f) (sym p ∙ ap reached y)
 
-  pub with-refused : (n m : ℕ) → r ≡ Refused n m → refused n m ≡ with x f
-  with-refused n m y = ap (λ a. with a f) (sym (ap reached y) ∙ p)
+  pub with-refused : (e : Refusal) → r ≡ Err e → refused e.no e.place ≡ with x f
+  with-refused e y = ap (λ a. with a f) (sym (ap reached y) ∙ p)
 
-module _ (s : List ℕ) (k : ℕ) (r : Reach) where
+module _ (s : List ℕ) (k : ℕ) (r : Result Cursor Refusal) where
   -- r is what `past_string` gave
   module _ (p : reached r ≡ string_end s k) where
-    pub string-given : (c : Cursor) → r ≡ To c → given (piece string k c.at) ≡ string_at s k
+    pub string-given : (c : Cursor) → r ≡ Ok c → given (piece string k c.at) ≡ string_at s k
     unfolding string_at
     string-given c y = sym (with-to (string_end s k) (λ e. given (piece string k e)) r p c y)
 
-    pub string-refused : (n m : ℕ) → r ≡ Refused n m → refused n m ≡ string_at s k
+    pub string-refused : (e : Refusal) → r ≡ Err e → refused e.no e.place ≡ string_at s k
     unfolding string_at
-    string-refused n m y = with-refused (string_end s k) (λ e. given (piece string k e)) r p n m y
+    string-refused e y = with-refused (string_end s k) (λ e. given (piece string k e)) r p e y
 
   -- r is what `past_run` gave
   module _ (p : reached r ≡ run_end s k) where
-    pub number-given : (c : Cursor) → r ≡ To c → given (piece number k c.at) ≡ number_at s k
+    pub number-given : (c : Cursor) → r ≡ Ok c → given (piece number k c.at) ≡ number_at s k
     unfolding number_at
     number-given c y = sym (with-to (run_end s k) (λ e. given (piece number k e)) r p c y)
 
-    pub number-refused : (n m : ℕ) → r ≡ Refused n m → refused n m ≡ number_at s k
+    pub number-refused : (e : Refusal) → r ≡ Err e → refused e.no e.place ≡ number_at s k
     unfolding number_at
-    number-refused n m y = with-refused (run_end s k) (λ e. given (piece number k e)) r p n m y
+    number-refused e y = with-refused (run_end s k) (λ e. given (piece number k e)) r p e y
 
-    pub mark-refused : (n m : ℕ) → r ≡ Refused n m → refused n m ≡ mark_at s k
+    pub mark-refused : (e : Refusal) → r ≡ Err e → refused e.no e.place ≡ mark_at s k
     unfolding mark_at
-    mark-refused n m y = with-refused (run_end s k) (mark_of s k) r p n m y
+    mark-refused e y = with-refused (run_end s k) (mark_of s k) r p e y
 
-    module _ (c : Cursor) (y : r ≡ To c) where
+    module _ (c : Cursor) (y : r ≡ Ok c) where
       pub mark-begin : is_begin s k c.at ≡ true → given (piece begin k c.at) ≡ mark_at s k
       unfolding mark_at
       mark-begin b = sym (with-to (run_end s k) (mark_of s k) r p c y ∙ rw b)
@@ -175,7 +175,7 @@ module _ (s : List ℕ) (k : ℕ) where
   token-finish h = rw (le-leb (length s) k h)
 
   -- r is what the reading by the first byte gave
-  module _ (h : k < length s) (r : Token) where
+  module _ (h : k < length s) (r : Result Token Refusal) where
     pub token-string : byte s k ≡ 34 → told r ≡ string_at s k → told r ≡ token_at s k
     unfolding token_at
     token-string q p = rw (lt-leb (length s) k h, eq-eqb (byte s k) 34 q, p)
@@ -194,14 +194,14 @@ module _ (s : List ℕ) (k : ℕ) where
       token-mark n d p = rw (lt-leb (length s) k h, ne_eqb (byte s k) 34 q, n, d, p)
 
   -- b is what `blanks` gave
-  module _ (b : Reach) (p : reached b ≡ blank_at s k) where
-    pub next-token : (c : Cursor) (r : Token) → b ≡ To c → told r ≡ token_at s c.at → told r ≡ next_token s k
+  module _ (b : Result Cursor Refusal) (p : reached b ≡ blank_at s k) where
+    pub next-token : (c : Cursor) (r : Result Token Refusal) → b ≡ Ok c → told r ≡ token_at s c.at → told r ≡ next_token s k
     unfolding next_token
     next-token c r y x = x ∙ sym (with-to (blank_at s k) (token_at s) b p c y)
 
-    pub next-refused : (n m : ℕ) → b ≡ Refused n m → refused n m ≡ next_token s k
+    pub next-refused : (e : Refusal) → b ≡ Err e → refused e.no e.place ≡ next_token s k
     unfolding next_token
-    next-refused n m y = with-refused (blank_at s k) (token_at s) b p n m y
+    next-refused e y = with-refused (blank_at s k) (token_at s) b p e y
 
 pub ruleset tokens = (token-finish, token-string, token-name, token-number, token-mark, via, rules)
 

@@ -1,16 +1,13 @@
 -- What a reading of the text answers, in document 01's own numbers, and for each answer of the code which of these it is.
-use Rattle.std.specs.Prelude.{ℕ, Bool, eqb}
+use Rattle.std.specs.Prelude.{ℕ, Bool, Option, Some, None, Result, Ok, Err, eqb}
 use Rattle.text.specs.Walk.{Step, on, done}
-use Rattle.text.specs.declared.cursor.Reach.{Reach}
-use Rattle.text.specs.declared.cursor.Reach.TheVariants as reach
-use Rattle.text.specs.declared.cursor.Gap.{Gap}
-use Rattle.text.specs.declared.cursor.Gap.TheVariants as gap
+use Rattle.text.specs.declared.cursor.Cursor.{Cursor}
+use Rattle.text.specs.declared.cursor.Refusal.{Refusal}
 use Rattle.text.specs.declared.cursor.Token.{Token}
 use Rattle.text.specs.declared.cursor.Token.TheVariants as token
 use Rattle.text.specs.declared.cursor.Item.{Item}
 use Rattle.text.specs.declared.cursor.Item.TheVariants as item
 use Rattle.text.specs.declared.cursor.Tag.{Tag}
-use Rattle.text.specs.declared.cursor.Tag.TheVariants as tag
 use Rattle.text.specs.declared.cursor.Passed.{Passed}
 use Rattle.text.specs.declared.cursor.Passed.TheVariants as passed
 
@@ -50,48 +47,48 @@ pub data Piece : Type 0 where
   piece : Kind → (start next : ℕ) → Piece
   finish : (place : ℕ) → Piece
 
--- what `Reach` answers: a place, or a refusal
-abbrev pub reached : Reach → Answer ℕ
-reached (reach.To c) = given c.at
-reached (reach.Refused n p) = refused n p
+-- what a reading up to a place answers: the place, or a refusal
+abbrev pub reached : Result Cursor Refusal → Answer ℕ
+reached (Ok c) = given c.at
+reached (Err r) = refused r.no r.place
 
--- what `Gap` answers in a walk past blanks and comments: on past one, done where none stands at k, or done with a refusal
-abbrev pub gap_step : ℕ → Gap → Step (Answer ℕ)
-gap_step k (gap.Past c) = on c.at
-gap_step k gap.Nothing = done (given k)
-gap_step k (gap.Refused n p) = done (refused n p)
+-- what passing a blank or a comment answers in a walk past them: on past one, done where none stands at k, or done with a refusal
+abbrev pub gap_step : ℕ → Result (Option Cursor) Refusal → Step (Answer ℕ)
+gap_step k (Ok (Some c)) = on c.at
+gap_step k (Ok None) = done (given k)
+gap_step k (Err r) = done (refused r.no r.place)
 
--- what `Token` answers: a piece, or a refusal
-abbrev pub told : Token → Answer Piece
-told (token.Name a c) = given (piece name a c.at)
-told (token.Text a c) = given (piece string a c.at)
-told (token.Number a c) = given (piece number a c.at)
-told (token.Begin a c) = given (piece begin a c.at)
-told (token.End a c) = given (piece end a c.at)
-told (token.Finish p) = given (finish p)
-told (token.Refused n p) = refused n p
+-- what reading a token answers: a piece, or a refusal
+abbrev pub told : Result Token Refusal → Answer Piece
+told (Ok (token.Name a c)) = given (piece name a c.at)
+told (Ok (token.Text a c)) = given (piece string a c.at)
+told (Ok (token.Number a c)) = given (piece number a c.at)
+told (Ok (token.Begin a c)) = given (piece begin a c.at)
+told (Ok (token.End a c)) = given (piece end a c.at)
+told (Ok (token.Finish p)) = given (finish p)
+told (Err r) = refused r.no r.place
 
--- what `Item` answers: a piece, or a refusal
-abbrev pub told_item : Item → Answer Piece
-told_item (item.Run a c) = given (piece run a c.at)
-told_item (item.Text a c) = given (piece string a c.at)
-told_item (item.Begin a c) = given (piece begin a c.at)
-told_item (item.End a c) = given (piece end a c.at)
-told_item (item.Finish p) = given (finish p)
-told_item (item.Refused n p) = refused n p
+-- what reading an item answers: a piece, or a refusal
+abbrev pub told_item : Result Item Refusal → Answer Piece
+told_item (Ok (item.Run a c)) = given (piece run a c.at)
+told_item (Ok (item.Text a c)) = given (piece string a c.at)
+told_item (Ok (item.Begin a c)) = given (piece begin a c.at)
+told_item (Ok (item.End a c)) = given (piece end a c.at)
+told_item (Ok (item.Finish p)) = given (finish p)
+told_item (Err r) = refused r.no r.place
 
--- what `Tag` answers: the places of a tag's first byte and past it, or a refusal
-abbrev pub tagged : Tag → Answer (ℕ × ℕ)
-tagged (tag.At a c) = given (a, c.at)
-tagged (tag.Refused n p) = refused n p
+-- what reading a tag answers: the places of its first byte and past it, or a refusal
+abbrev pub tagged : Result Tag Refusal → Answer (ℕ × ℕ)
+tagged (Ok t) = given (t.start, t.next.at)
+tagged (Err r) = refused r.no r.place
 
 -- past an item of a skipped block, or past the `/end` that closes the block
 pub data Pass : Type 0 where
   past : (next : ℕ) → Pass
   closes : (next : ℕ) → Pass
 
--- what `Passed` answers: an item passed, the block's `/end`, or a refusal
-abbrev pub skipped : Passed → Answer Pass
-skipped (passed.Past c) = given (past c.at)
-skipped (passed.Closes c) = given (closes c.at)
-skipped (passed.Refused n p) = refused n p
+-- what passing an item answers: an item passed, the block's `/end`, or a refusal
+abbrev pub skipped : Result Passed Refusal → Answer Pass
+skipped (Ok (passed.Past c)) = given (past c.at)
+skipped (Ok (passed.Closes c)) = given (closes c.at)
+skipped (Err r) = refused r.no r.place

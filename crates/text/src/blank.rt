@@ -4,7 +4,7 @@ ghost use Rattle.text.specs.Answer.{reached, gap_step};
 ghost use Rattle.text.specs.Blank.{line_end, comment_end, blank_step, blank_at, token_ends};
 
 use crate::bytes::{is_blank, is_inner, pair_at};
-use crate::cursor::{Cursor, Gap, Reach};
+use crate::cursor::{Cursor, Refusal};
 
 // The end of the line.
 pub fn line_end(s: &[u8], at: usize) -> usize
@@ -42,71 +42,66 @@ pub fn token_ends(s: &[u8], at: usize) -> bool
 
 impl Cursor {
     // Past the comment whose `/*` stands at the cursor.
-    pub fn comment(self, s: &[u8]) -> Reach
+    pub fn comment(self, s: &[u8]) -> Result<Cursor, Refusal>
         ensures { reached result ≡ comment_end s.now self.at }
     {
         let at = self.at;
         if s.len() <= at {
-            return Reach::Refused { no: 1, place: at };
+            return Err(Refusal { no: 1, place: at });
         }
         let mut i = at + 2;
         while i < s.len() {
             if pair_at(s, i, b'*', b'/') {
-                return Reach::To(Cursor { at: i + 2 });
+                return Ok(Cursor { at: i + 2 });
             }
             i += 1;
         }
-        Reach::Refused { no: 1, place: at }
+        Err(Refusal { no: 1, place: at })
     }
 
     // Past the blank or comment at the cursor.
-    pub fn gap(self, s: &[u8]) -> Gap
+    pub fn gap(self, s: &[u8]) -> Result<Option<Cursor>, Refusal>
         ensures { gap_step self.at result ≡ blank_step s.now self.at }
     {
         let at = self.at;
         if s.len() <= at {
-            return Gap::Nothing;
+            return Ok(None);
         }
         let b = s[at];
         if is_inner(b) {
-            return Gap::Nothing;
+            return Ok(None);
         }
         if is_blank(b) {
-            return Gap::Past(Cursor { at: at + 1 });
+            return Ok(Some(Cursor { at: at + 1 }));
         }
         if pair_at(s, at, b'/', b'/') {
-            return Gap::Past(Cursor {
+            return Ok(Some(Cursor {
                 at: line_end(s, at + 2),
-            });
+            }));
         }
         if pair_at(s, at, b'/', b'*') {
-            return match self.comment(s) {
-                Reach::To(past) => Gap::Past(past),
-                Reach::Refused { no, place } => Gap::Refused { no, place },
-            };
+            let past = self.comment(s)?;
+            return Ok(Some(past));
         }
-        Gap::Nothing
+        Ok(None)
     }
 
     // Past blanks and comments.
-    pub fn blanks(self, s: &[u8]) -> Reach
+    pub fn blanks(self, s: &[u8]) -> Result<Cursor, Refusal>
         ensures { reached result ≡ blank_at s.now self.at }
     {
         let mut i = self.at;
         while i < s.len() {
             let c = Cursor { at: i };
-            match c.gap(s) {
-                Gap::Past(past) => {
+            match c.gap(s)? {
+                Some(past) => {
                     i = past.at;
                 }
-                Gap::Nothing => {
-                    return Reach::To(c);
-                }
-                Gap::Refused { no, place } => {
-                    return Reach::Refused { no, place };
+                None => {
+                    return Ok(c);
                 }
             }
         }
-        Reach::To(Cursor { at: i })
+        Ok(Cursor { at: i })
     }
 }

@@ -13,14 +13,7 @@ pub struct Refusal {
     pub place: usize,
 }
 
-// A place that was reached, or a refusal.
-#[derive(Clone, Copy)]
-pub enum Reach {
-    To(Cursor),
-    Refused { no: u8, place: usize },
-}
-
-// A piece of the text, from its first byte to the cursor past it; the text's end; or a refusal.
+// A piece of the text, from its first byte to the cursor past it; or the text's end.
 #[derive(Clone, Copy)]
 pub enum Token {
     Name { start: usize, next: Cursor },
@@ -29,10 +22,9 @@ pub enum Token {
     Begin { start: usize, next: Cursor },
     End { start: usize, next: Cursor },
     Finish { place: usize },
-    Refused { no: u8, place: usize },
 }
 
-// An item of a skipped block, from its first byte to the cursor past it; the text's end; or a refusal.
+// An item of a skipped block, from its first byte to the cursor past it; or the text's end.
 #[derive(Clone, Copy)]
 pub enum Item {
     Run { start: usize, next: Cursor },
@@ -40,28 +32,18 @@ pub enum Item {
     Begin { start: usize, next: Cursor },
     End { start: usize, next: Cursor },
     Finish { place: usize },
-    Refused { no: u8, place: usize },
 }
 
-// An item of a skipped block that was passed, the block's `/end`, or a refusal.
+// An item of a skipped block that was passed, or the block's `/end`.
 #[derive(Clone, Copy)]
 pub enum Passed {
     Past(Cursor),
     Closes(Cursor),
-    Refused { no: u8, place: usize },
 }
 
-// A blank or comment that was passed, none, or a refusal.
+// The tag of a block, from its first byte to the cursor past it.
 #[derive(Clone, Copy)]
-pub enum Gap {
-    Past(Cursor),
-    Nothing,
-    Refused { no: u8, place: usize },
-}
-
-// The tag of a block, from its first byte to the cursor past it, or a refusal.
-#[derive(Clone, Copy)]
-pub enum Tag {
-    At { start: usize, next: Cursor },
-    Refused { no: u8, place: usize },
+pub struct Tag {
+    pub start: usize,
+    pub next: Cursor,
 }

@@ -5,7 +5,7 @@ ghost use Rattle.text.specs.Item.{next_item};
 ghost use Rattle.text.specs.Skip.{tag_at, closing, is_a2ml, after_end, a2ml_item, a2ml_end, skip_block, skip_item};
 
 use crate::bytes::same_part;
-use crate::cursor::{Cursor, Item, Passed, Reach, Tag};
+use crate::cursor::{Cursor, Item, Passed, Refusal, Tag};
 
 // Whether the bytes from k up to e are `A2ML`.
 pub fn is_a2ml(s: &[u8], k: usize, e: usize) -> bool
@@ -16,132 +16,112 @@ pub fn is_a2ml(s: &[u8], k: usize, e: usize) -> bool
 
 impl Cursor {
     // The tag that comes next; another piece in its place is refusal no.
-    pub fn tag(self, s: &[u8], no: u8) -> Tag
+    #[tactic(auto, unfolding(crate::specs::Skip::tag_at))]
+    pub fn tag(self, s: &[u8], no: u8) -> Result<Tag, Refusal>
         ensures { tagged result ≡ tag_at «no» s.now self.at }
     {
-        match self.item(s) {
-            Item::Run { start, next } => Tag::At { start, next },
-            Item::Text { start, next: _ } => Tag::Refused { no, place: start },
-            Item::Begin { start, next: _ } => Tag::Refused { no, place: start },
-            Item::End { start, next: _ } => Tag::Refused { no, place: start },
-            Item::Finish { place } => Tag::Refused { no: 3, place },
-            Item::Refused { no: why, place } => Tag::Refused { no: why, place },
+        match self.item(s)? {
+            Item::Run { start, next } => Ok(Tag { start, next }),
+            Item::Text { start, next: _ } => Err(Refusal { no, place: start }),
+            Item::Begin { start, next: _ } => Err(Refusal { no, place: start }),
+            Item::End { start, next: _ } => Err(Refusal { no, place: start }),
+            Item::Finish { place } => Err(Refusal { no: 3, place }),
         }
     }
 
     // Past the tag after an `/end`, which is that of the block, from `from` up to `to`.
-    pub fn closing(self, s: &[u8], from: usize, to: usize) -> Reach
+    #[tactic(auto, unfolding(crate::specs::Skip::closing))]
+    pub fn closing(self, s: &[u8], from: usize, to: usize) -> Result<Cursor, Refusal>
         ensures { reached result ≡ closing s.now from to self.at }
     {
-        match self.tag(s, 3) {
-            Tag::At { start, next } => {
-                if same_part(s, start, next.at, s, from, to) {
-                    return Reach::To(next);
-                }
-                Reach::Refused {
-                    no: 3,
-                    place: start,
-                }
-            }
-            Tag::Refused { no, place } => Reach::Refused { no, place },
+        let tag = self.tag(s, 3)?;
+        if same_part(s, tag.start, tag.next.at, s, from, to) {
+            return Ok(tag.next);
         }
+        Err(Refusal {
+            no: 3,
+            place: tag.start,
+        })
     }
 
     // Past the `A2ML` that closes the block where it stands after an `/end`; else the `/end` alone is passed.
-    pub fn after_end(self, s: &[u8]) -> Passed
+    pub fn after_end(self, s: &[u8]) -> Result<Passed, Refusal>
         ensures { skipped result ≡ after_end s.now self.at (next_item s.now self.at) }
     {
         match self.item(s) {
-            Item::Run { start, next } => {
+            Ok(Item::Run { start, next }) => {
                 if is_a2ml(s, start, next.at) {
-                    return Passed::Closes(next);
+                    return Ok(Passed::Closes(next));
                 }
-                Passed::Past(self)
+                Ok(Passed::Past(self))
             }
-            Item::Text { start: _, next: _ } => Passed::Past(self),
-            Item::Begin { start: _, next: _ } => Passed::Past(self),
-            Item::End { start: _, next: _ } => Passed::Past(self),
-            Item::Finish { place: _ } => Passed::Past(self),
-            Item::Refused { no: _, place: _ } => Passed::Past(self),
+            _ => Ok(Passed::Past(self)),
         }
     }
 
     // Past the next item of an A2ML block.
-    pub fn a2ml_item(self, s: &[u8]) -> Passed
+    #[tactic(auto, unfolding(crate::specs::Skip::a2ml_item))]
+    pub fn a2ml_item(self, s: &[u8]) -> Result<Passed, Refusal>
         ensures { skipped result ≡ a2ml_item s.now self.at }
     {
-        match self.item(s) {
+        match self.item(s)? {
             Item::End { start: _, next } => next.after_end(s),
-            Item::Text { start: _, next } => Passed::Past(next),
-            Item::Run { start: _, next } => Passed::Past(next),
-            Item::Begin { start: _, next } => Passed::Past(next),
-            Item::Finish { place } => Passed::Refused { no: 3, place },
-            Item::Refused { no, place } => Passed::Refused { no, place },
+            Item::Text { start: _, next } => Ok(Passed::Past(next)),
+            Item::Run { start: _, next } => Ok(Passed::Past(next)),
+            Item::Begin { start: _, next } => Ok(Passed::Past(next)),
+            Item::Finish { place } => Err(Refusal { no: 3, place }),
         }
     }
 
     // Past the A2ML block whose items start at the cursor.
-    pub fn past_a2ml(self, s: &[u8]) -> Reach
+    pub fn past_a2ml(self, s: &[u8]) -> Result<Cursor, Refusal>
         ensures { reached result ≡ a2ml_end s.now self.at }
     {
         let mut i = self.at;
         while i < s.len() {
             let c = Cursor { at: i };
-            match c.a2ml_item(s) {
+            match c.a2ml_item(s)? {
                 Passed::Past(past) => {
                     i = past.at;
                 }
                 Passed::Closes(past) => {
-                    return Reach::To(past);
-                }
-                Passed::Refused { no, place } => {
-                    return Reach::Refused { no, place };
+                    return Ok(past);
                 }
             }
         }
-        Reach::Refused {
+        Err(Refusal {
             no: 3,
             place: s.len(),
-        }
+        })
     }
 
     // Past the next item of a block, with depth levels left below the block.
     #[cycle(skip_block_skip_item)]
-    pub fn skip_item(self, s: &[u8], depth: u8) -> Passed
+    pub fn skip_item(self, s: &[u8], depth: u8) -> Result<Passed, Refusal>
         ensures { skipped result ≡ skip_item depth s.now self.at }
     {
-        match self.item(s) {
+        match self.item(s)? {
             Item::Begin { start, next } => {
                 if depth == 0 {
-                    return Passed::Refused {
+                    return Err(Refusal {
                         no: 3,
                         place: start,
-                    };
+                    });
                 }
-                match next.tag(s, 5) {
-                    Tag::At {
-                        start: from,
-                        next: to,
-                    } => {
-                        match to.skip_block(s, from, depth - 1) {
-                            Reach::To(past) => Passed::Past(past),
-                            Reach::Refused { no, place } => Passed::Refused { no, place },
-                        }
-                    }
-                    Tag::Refused { no, place } => Passed::Refused { no, place },
-                }
+                let tag = next.tag(s, 5)?;
+                let past = tag.next.skip_block(s, tag.start, depth - 1)?;
+                Ok(Passed::Past(past))
             }
-            Item::End { start: _, next } => Passed::Closes(next),
-            Item::Text { start: _, next } => Passed::Past(next),
-            Item::Run { start: _, next } => Passed::Past(next),
-            Item::Finish { place } => Passed::Refused { no: 3, place },
-            Item::Refused { no, place } => Passed::Refused { no, place },
+            Item::End { start: _, next } => Ok(Passed::Closes(next)),
+            Item::Text { start: _, next } => Ok(Passed::Past(next)),
+            Item::Run { start: _, next } => Ok(Passed::Past(next)),
+            Item::Finish { place } => Err(Refusal { no: 3, place }),
         }
     }
 
     // Past the block whose tag stands from `from` up to the cursor, with depth levels left below it.
     #[cycle(skip_block_skip_item)]
-    pub fn skip_block(self, s: &[u8], from: usize, depth: u8) -> Reach
+    pub fn skip_block(self, s: &[u8], from: usize, depth: u8) -> Result<Cursor, Refusal>
         ensures { reached result ≡ skip_block depth s.now from self.at }
     {
         let to = self.at;
@@ -151,21 +131,18 @@ impl Cursor {
         let mut i = to;
         while i < s.len() {
             let c = Cursor { at: i };
-            match c.skip_item(s, depth) {
+            match c.skip_item(s, depth)? {
                 Passed::Past(past) => {
                     i = past.at;
                 }
                 Passed::Closes(past) => {
                     return past.closing(s, from, to);
                 }
-                Passed::Refused { no, place } => {
-                    return Reach::Refused { no, place };
-                }
             }
         }
-        Reach::Refused {
+        Err(Refusal {
             no: 3,
             place: s.len(),
-        }
+        })
     }
 }

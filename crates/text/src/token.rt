@@ -5,7 +5,7 @@ ghost use Rattle.text.specs.Token.{name_end, name_at, string_end, string_at, run
 
 use crate::blank::token_ends;
 use crate::bytes::{in_name, is_allowed, pair_at, same_part, starts_name, starts_number};
-use crate::cursor::{Cursor, Reach, Token};
+use crate::cursor::{Cursor, Refusal, Token};
 
 // The most bytes that a name has.
 pub const NAME_BYTES: usize = 128;
@@ -41,30 +41,30 @@ pub fn is_end(s: &[u8], k: usize, e: usize) -> bool
 
 impl Cursor {
     // The name at the cursor.
-    pub fn name(self, s: &[u8]) -> Token
+    pub fn name(self, s: &[u8]) -> Result<Token, Refusal>
         ensures { told result ≡ name_at s.now self.at }
     {
         let at = self.at;
         let e = name_end(s, at);
         if NAME_BYTES < e - at {
-            return Token::Refused { no: 1, place: at };
+            return Err(Refusal { no: 1, place: at });
         }
         if token_ends(s, e) {
-            return Token::Name {
+            return Ok(Token::Name {
                 start: at,
                 next: Cursor { at: e },
-            };
+            });
         }
-        Token::Refused { no: 1, place: at }
+        Err(Refusal { no: 1, place: at })
     }
 
     // Past the string whose first quote stands at the cursor.
-    pub fn past_string(self, s: &[u8]) -> Reach
+    pub fn past_string(self, s: &[u8]) -> Result<Cursor, Refusal>
         ensures { reached result ≡ string_end s.now self.at }
     {
         let at = self.at;
         if s.len() <= at {
-            return Reach::Refused { no: 1, place: at };
+            return Err(Refusal { no: 1, place: at });
         }
         let mut i = at + 1;
         while i < s.len() {
@@ -73,86 +73,82 @@ impl Cursor {
             } else if pair_at(s, i, b'"', b'"') {
                 i += 2;
             } else if s[i] == b'"' {
-                return Reach::To(Cursor { at: i + 1 });
+                return Ok(Cursor { at: i + 1 });
             } else {
                 i += 1;
             }
         }
-        Reach::Refused { no: 1, place: at }
+        Err(Refusal { no: 1, place: at })
     }
 
     // The string at the cursor.
-    pub fn string(self, s: &[u8]) -> Token
+    #[tactic(auto, unfolding(crate::specs::Token::string_at))]
+    pub fn string(self, s: &[u8]) -> Result<Token, Refusal>
         ensures { told result ≡ string_at s.now self.at }
     {
-        match self.past_string(s) {
-            Reach::To(next) => Token::Text {
-                start: self.at,
-                next,
-            },
-            Reach::Refused { no, place } => Token::Refused { no, place },
-        }
+        let next = self.past_string(s)?;
+        Ok(Token::Text {
+            start: self.at,
+            next,
+        })
     }
 
     // Past the run at the cursor.
-    pub fn past_run(self, s: &[u8]) -> Reach
+    pub fn past_run(self, s: &[u8]) -> Result<Cursor, Refusal>
         ensures { reached result ≡ run_end s.now self.at }
     {
         let at = self.at;
         let mut i = at;
         while i < s.len() {
             if token_ends(s, i) {
-                return Reach::To(Cursor { at: i });
+                return Ok(Cursor { at: i });
             }
             if is_allowed(s[i]) {
                 i += 1;
             } else {
-                return Reach::Refused { no: 1, place: at };
+                return Err(Refusal { no: 1, place: at });
             }
         }
-        Reach::To(Cursor { at: i })
+        Ok(Cursor { at: i })
     }
 
     // The run at the cursor, which starts as a number does.
-    pub fn number(self, s: &[u8]) -> Token
+    #[tactic(auto, unfolding(crate::specs::Token::number_at))]
+    pub fn number(self, s: &[u8]) -> Result<Token, Refusal>
         ensures { told result ≡ number_at s.now self.at }
     {
-        match self.past_run(s) {
-            Reach::To(next) => Token::Number {
-                start: self.at,
-                next,
-            },
-            Reach::Refused { no, place } => Token::Refused { no, place },
-        }
+        let next = self.past_run(s)?;
+        Ok(Token::Number {
+            start: self.at,
+            next,
+        })
     }
 
     // `/begin` or `/end` at the cursor.
-    pub fn mark(self, s: &[u8]) -> Token
+    #[tactic(auto, unfolding(crate::specs::Token::mark_at))]
+    pub fn mark(self, s: &[u8]) -> Result<Token, Refusal>
         ensures { told result ≡ mark_at s.now self.at }
     {
         let at = self.at;
-        match self.past_run(s) {
-            Reach::To(next) => {
-                let e = next.at;
-                if is_begin(s, at, e) {
-                    return Token::Begin { start: at, next };
-                }
-                if is_end(s, at, e) {
-                    return Token::End { start: at, next };
-                }
-                Token::Refused { no: 1, place: at }
-            }
-            Reach::Refused { no, place } => Token::Refused { no, place },
+        let next = self.past_run(s)?;
+        let e = next.at;
+        if is_begin(s, at, e) {
+            return Ok(Token::Begin { start: at, next });
         }
+        if is_end(s, at, e) {
+            return Ok(Token::End { start: at, next });
+        }
+        Err(Refusal { no: 1, place: at })
     }
 
     // The token that starts at the cursor, by its first byte.
-    pub fn token_here(self, s: &[u8]) -> Token
+    #[tactic(auto, unfolding(crate::specs::Token::token_at))]
+    pub fn token_here(self, s: &[u8]) -> Result<Token, Refusal>
         ensures { told result ≡ token_at s.now self.at }
     {
         let at = self.at;
         if s.len() <= at {
-            return Token::Finish { place: s.len() };
+            return Ok(Token::Finish { place: s.len() });
         }
         let b = s[at];
         if b == b'"' {
@@ -168,12 +164,11 @@ impl Cursor {
     }
 
     // The next token.
-    pub fn token(self, s: &[u8]) -> Token
+    #[tactic(auto, unfolding(crate::specs::Token::next_token))]
+    pub fn token(self, s: &[u8]) -> Result<Token, Refusal>
         ensures { told result ≡ next_token s.now self.at }
     {
-        match self.blanks(s) {
-            Reach::To(c) => c.token_here(s),
-            Reach::Refused { no, place } => Token::Refused { no, place },
-        }
+        let c = self.blanks(s)?;
+        c.token_here(s)
     }
 }

@@ -5,7 +5,7 @@
 use std::io;
 use std::io::Read;
 use text::bytes::same_part;
-use text::cursor::{Cursor, Reach, Token};
+use text::cursor::{Cursor, Refusal, Token};
 use text::skip::is_a2ml;
 
 // The most bytes of a description.
@@ -13,13 +13,6 @@ const TEXT_BYTES: usize = 32768;
 
 // The levels left below a block of MODULE, which stands at depth 3 of 16.
 const LEVELS_LEFT: u8 = 13;
-
-// The place to read on from, or no more to read.
-#[derive(Clone, Copy)]
-enum Next {
-    On(Cursor),
-    Stop,
-}
 
 // Writes a number after a blank.
 fn print_number(rt: &impl Print, n: usize) -> io::Result<()> {
@@ -40,7 +33,7 @@ fn print_token(
     s: &[u8],
     start: usize,
     next: Cursor,
-) -> io::Result<Next> {
+) -> io::Result<Option<Cursor>> {
     let end = next.at;
     print_words(rt, kind, start, end)?;
     if start <= end {
@@ -50,14 +43,14 @@ fn print_token(
         }
     }
     rt.print("\n")?;
-    Ok(Next::On(next))
+    Ok(Some(next))
 }
 
 // Writes the line of a refusal.
-fn print_refusal(rt: &impl Print, no: u8, place: usize) -> io::Result<Next> {
-    print_words(rt, "refused", no as usize, place)?;
+fn print_refusal(rt: &impl Print, why: Refusal) -> io::Result<Option<Cursor>> {
+    print_words(rt, "refused", why.no as usize, why.place)?;
     rt.print("\n")?;
-    Ok(Next::Stop)
+    Ok(None)
 }
 
 // Writes the line of a block that is passed whole, from its `/begin`; its tag stands from `from` up to the cursor.
@@ -67,20 +60,25 @@ fn print_block(
     begin: usize,
     from: usize,
     to: Cursor,
-) -> io::Result<Next> {
+) -> io::Result<Option<Cursor>> {
     match to.skip_block(s, from, LEVELS_LEFT) {
-        Reach::To(past) => {
+        Ok(past) => {
             print_words(rt, "skipped", begin, past.at)?;
             rt.print("\n")?;
-            Ok(Next::On(past))
+            Ok(Some(past))
         }
-        Reach::Refused { no, place } => print_refusal(rt, no, place),
+        Err(why) => print_refusal(rt, why),
     }
 }
 
 // Writes the line of a `/begin`, or of its whole block where A2ML or IF_DATA comes next.
-fn print_begin(rt: &impl Print, s: &[u8], begin: usize, next: Cursor) -> io::Result<Next> {
-    let Token::Name { start, next: to } = next.token(s) else {
+fn print_begin(
+    rt: &impl Print,
+    s: &[u8],
+    begin: usize,
+    next: Cursor,
+) -> io::Result<Option<Cursor>> {
+    let Ok(Token::Name { start, next: to }) = next.token(s) else {
         return print_token(rt, "begin", s, begin, next);
     };
     let end = to.at;
@@ -91,23 +89,23 @@ fn print_begin(rt: &impl Print, s: &[u8], begin: usize, next: Cursor) -> io::Res
 }
 
 // Writes the line of the text's end.
-fn print_finish(rt: &impl Print, place: usize) -> io::Result<Next> {
+fn print_finish(rt: &impl Print, place: usize) -> io::Result<Option<Cursor>> {
     rt.print("finish")?;
     print_number(rt, place)?;
     rt.print("\n")?;
-    Ok(Next::Stop)
+    Ok(None)
 }
 
 // Writes the line of the next token.
-fn print_next(rt: &impl Print, s: &[u8], c: Cursor) -> io::Result<Next> {
+fn print_next(rt: &impl Print, s: &[u8], c: Cursor) -> io::Result<Option<Cursor>> {
     match c.token(s) {
-        Token::Name { start, next } => print_token(rt, "name", s, start, next),
-        Token::Text { start, next } => print_token(rt, "string", s, start, next),
-        Token::Number { start, next } => print_token(rt, "number", s, start, next),
-        Token::Begin { start, next } => print_begin(rt, s, start, next),
-        Token::End { start, next } => print_token(rt, "end", s, start, next),
-        Token::Finish { place } => print_finish(rt, place),
-        Token::Refused { no, place } => print_refusal(rt, no, place),
+        Ok(Token::Name { start, next }) => print_token(rt, "name", s, start, next),
+        Ok(Token::Text { start, next }) => print_token(rt, "string", s, start, next),
+        Ok(Token::Number { start, next }) => print_token(rt, "number", s, start, next),
+        Ok(Token::Begin { start, next }) => print_begin(rt, s, start, next),
+        Ok(Token::End { start, next }) => print_token(rt, "end", s, start, next),
+        Ok(Token::Finish { place }) => print_finish(rt, place),
+        Err(why) => print_refusal(rt, why),
     }
 }
 
@@ -115,16 +113,13 @@ fn print_next(rt: &impl Print, s: &[u8], c: Cursor) -> io::Result<Next> {
 fn print_all(rt: &impl Print, s: &[u8]) -> io::Result<()> {
     let mut at: usize = 0;
     while at <= s.len() {
-        match print_next(rt, s, Cursor { at })? {
-            Next::On(c) => {
-                let next = c.at;
-                if next <= at {
-                    return Ok(());
-                }
-                at = next;
-            }
-            Next::Stop => return Ok(()),
+        let Some(c) = print_next(rt, s, Cursor { at })? else {
+            return Ok(());
+        };
+        if c.at <= at {
+            return Ok(());
         }
+        at = c.at;
     }
     Ok(())
 }

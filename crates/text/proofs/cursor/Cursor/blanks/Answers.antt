@@ -1,14 +1,12 @@
-use Rattle.text.proofs.BlankLaws.{blanks}
+use Rattle.std.proofs.lemmas.Result.{err_from_is_err_and}
+use Rattle.text.proofs.BlankLaws.{blanks, blank-refused}
 use Rattle.text.proofs.cursor.Cursor.blanks.Goals as goal
 
 pub loop-i-init : goal.loop-i-init
 loop-i-init c = search blanks
 
-pub gap-requires : goal.gap-requires
-gap-requires c = search blanks
-
-pub enum_known-past : goal.enum_known-past
-enum_known-past c = search blanks
+pub returns-in_err-past : goal.returns-in_err-past
+returns-in_err-past c = let p = err_from_is_err_and c.from_residual.result c.from_residual.ensures.1 in rw (p.1, p.2) (blank-refused _ _ _ c.gap.ensures c.loop-i-test.true _ c.loop-i.invariant _ c.in_err-past.was)
 
 pub loop-i-smaller : goal.loop-i-smaller
 loop-i-smaller c = search blanks
@@ -16,17 +14,8 @@ loop-i-smaller c = search blanks
 pub loop-i-preserved : goal.loop-i-preserved
 loop-i-preserved c = search blanks
 
-pub enum_told-1 : goal.enum_told-1
-enum_told-1 c = search blanks
-
-pub returns-in-Nothing : goal.returns-in-Nothing
-returns-in-Nothing c = search blanks
-
-pub enum_known-no : goal.enum_known-no
-enum_known-no c = search blanks
-
-pub returns-in-Refused : goal.returns-in-Refused
-returns-in-Refused c = search blanks
+pub returns-in-None : goal.returns-in-None
+returns-in-None c = search blanks
 
 pub returns : goal.returns
 returns c = search blanks

@@ -4,26 +4,11 @@ use Rattle.text.proofs.cursor.Cursor.comment.Goals as goal
 pub returns-then-s-at : goal.returns-then-s-at
 returns-then-s-at c = search comments
 
-pub overflow_add-i : goal.overflow_add-i
-overflow_add-i c = search comments
-
 pub loop-i-init : goal.loop-i-init
 loop-i-init c = search comments
 
-pub pair_at-requires : goal.pair_at-requires
-pair_at-requires c = search comments
-
-pub overflow_add-result : goal.overflow_add-result
-overflow_add-result c = search comments
-
 pub returns-then-pair_at : goal.returns-then-pair_at
 returns-then-pair_at c = search comments
-
-pub overflow_add-i-in-loop-i : goal.overflow_add-i-in-loop-i
-overflow_add-i-in-loop-i c = search comments
-
-pub loop-i-smaller : goal.loop-i-smaller
-loop-i-smaller c = search comments
 
 pub loop-i-preserved : goal.loop-i-preserved
 loop-i-preserved c = search comments

@@ -1,17 +1,11 @@
 use Rattle.text.proofs.TokenLaws.{name-tokens}
 use Rattle.text.proofs.cursor.Cursor.name.Goals as goal
 
-pub name_end-e-requires : goal.name_end-e-requires
-name_end-e-requires c = search name-tokens
-
 pub overflow_sub-e : goal.overflow_sub-e
 overflow_sub-e c = search name-tokens
 
 pub returns-then-e-at-gt-NAME_BYTES : goal.returns-then-e-at-gt-NAME_BYTES
 returns-then-e-at-gt-NAME_BYTES c = search name-tokens
-
-pub token_ends-requires : goal.token_ends-requires
-token_ends-requires c = search name-tokens
 
 pub returns-then-token_ends : goal.returns-then-token_ends
 returns-then-token_ends c = search name-tokens

@@ -1,32 +1,21 @@
-use Rattle.text.proofs.SkipLaws.{in-a2ml}
+use Rattle.std.proofs.lemmas.Result.{err_from_is_err_and}
+use Rattle.text.proofs.SkipLaws.{in-a2ml, in-a2ml-on, in-a2ml-closed, in-a2ml-refused}
 use Rattle.text.proofs.cursor.Cursor.past_a2ml.Goals as goal
 
 pub loop-i-init : goal.loop-i-init
 loop-i-init c = search in-a2ml
 
-pub a2ml_item-requires : goal.a2ml_item-requires
-a2ml_item-requires c = search in-a2ml
-
-pub enum_known-past : goal.enum_known-past
-enum_known-past c = search in-a2ml
+pub returns-in_err-past : goal.returns-in_err-past
+returns-in_err-past c = let p = err_from_is_err_and c.from_residual.result c.from_residual.ensures.1 in rw (p.1, p.2) (in-a2ml-refused _ _ _ c.a2ml_item.ensures c.loop-i-test.true _ c.loop-i.invariant _ c.in_err-past.was)
 
 pub loop-i-smaller : goal.loop-i-smaller
 loop-i-smaller c = search in-a2ml
 
 pub loop-i-preserved : goal.loop-i-preserved
-loop-i-preserved c = search in-a2ml
-
-pub enum_known-past-in-Closes-1 : goal.enum_known-past-in-Closes-1
-enum_known-past-in-Closes-1 c = search in-a2ml
+loop-i-preserved c = in-a2ml-on _ _ _ c.a2ml_item.ensures c.loop-i-test.true _ c.loop-i.invariant _ _ c.in_ok-past.was c.in-Past.is
 
 pub returns-in-Closes : goal.returns-in-Closes
-returns-in-Closes c = search in-a2ml
-
-pub enum_known-no : goal.enum_known-no
-enum_known-no c = search in-a2ml
-
-pub returns-in-Refused : goal.returns-in-Refused
-returns-in-Refused c = search in-a2ml
+returns-in-Closes c = in-a2ml-closed _ _ _ c.a2ml_item.ensures c.loop-i-test.true _ c.loop-i.invariant _ _ c.in_ok-past.was c.in-Closes.is
 
 pub returns : goal.returns
 returns c = search in-a2ml

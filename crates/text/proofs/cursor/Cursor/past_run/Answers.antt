@@ -4,23 +4,8 @@ use Rattle.text.proofs.cursor.Cursor.past_run.Goals as goal
 pub loop-i-init : goal.loop-i-init
 loop-i-init c = search runs
 
-pub token_ends-requires : goal.token_ends-requires
-token_ends-requires c = search runs
-
 pub returns-then-token_ends : goal.returns-then-token_ends
 returns-then-token_ends c = search runs
-
-pub bounds-s-i : goal.bounds-s-i
-bounds-s-i c = search runs
-
-pub is_allowed-requires : goal.is_allowed-requires
-is_allowed-requires c = search runs
-
-pub overflow_add-i : goal.overflow_add-i
-overflow_add-i c = search runs
-
-pub loop-i-smaller : goal.loop-i-smaller
-loop-i-smaller c = search runs
 
 pub loop-i-preserved : goal.loop-i-preserved
 loop-i-preserved c = search runs

@@ -14,7 +14,7 @@ use Rattle.cell.specs.Kind.{shapes, shape_of}
 use Rattle.cell.specs.Raw.{raw_at}
 use Rattle.place.specs.Align.{word_for, alignment, aligned}
 use Rattle.place.specs.Inside.{inside}
-use Rattle.place.specs.Walk.{start_of, count_stored, count_at, count_xat, count_yat, standing}
+use Rattle.place.specs.Walk.{start_of, count_stored, count_at, count_x_at, count_y_at, standing}
 use Rattle.place.specs.declared.order.Aligns.{Aligns}
 use Rattle.place.specs.declared.order.Role.{Role}
 use Rattle.place.specs.declared.order.Role.TheVariants.{Values, PointsX, PointsY, CountX, CountY}
@@ -128,11 +128,11 @@ module _ (g : Ground) (n : Need) (image : List ℕ) where
     standing-reads PointsY t h = (0, tt, same-given _ t h)
     standing-reads CountX t h = by-x (count_at image g kind at n.x.most) refl h
       where
-        by-x : (a : Answer ℕ) → count_at image g kind at n.x.most ≡ a → count_xat at (shape_of kind).bytes s a ≡ given t → (c : ℕ) × Reads CountX kind at c × (past kind at c s.places CountX ≡ t)
+        by-x : (a : Answer ℕ) → count_at image g kind at n.x.most ≡ a → count_x_at at (shape_of kind).bytes s a ≡ given t → (c : ℕ) × Reads CountX kind at c × (past kind at c s.places CountX ≡ t)
         by-x (given c) q e = (c, at-counted image g kind at n.x.most c q, rw one (same-given _ t e))
         by-x (refused k) q e = absurd (never k t e)
     standing-reads CountY t h = by-y (count_at image g kind at n.y.most) refl h
       where
-        by-y : (a : Answer ℕ) → count_at image g kind at n.y.most ≡ a → count_yat at (shape_of kind).bytes s a ≡ given t → (c : ℕ) × Reads CountY kind at c × (past kind at c s.places CountY ≡ t)
+        by-y : (a : Answer ℕ) → count_at image g kind at n.y.most ≡ a → count_y_at at (shape_of kind).bytes s a ≡ given t → (c : ℕ) × Reads CountY kind at c × (past kind at c s.places CountY ≡ t)
         by-y (given c) q e = (c, at-counted image g kind at n.y.most c q, rw one (same-given _ t e))
         by-y (refused k) q e = absurd (never k t e)

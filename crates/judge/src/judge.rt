@@ -6,16 +6,14 @@ ghost use Rattle.place.specs.Told.{told_judged};
 use crate::inside::is_inside;
 use crate::walk::place_parts;
 use cell::kind::shape_of;
-use place::judge::{Judged, Standing};
+use place::judge::Standing;
 use place::order::{Entry, Layout};
+use place::refusal::PlaceRefusal;
 use place::rules::Need;
-use place::walk::{Ground, OUTSIDE, Placed, Places};
+use place::walk::{Ground, Places};
 
 // The most elements of all objects.
 pub const ELEMENTS: u64 = 4096;
-
-// More than a capacity.
-pub const CAPACITY: u8 = 8;
 
 // How many bytes so many elements of a part take.
 fn bytes_of(e: Entry, count: u64) -> u64
@@ -69,32 +67,36 @@ fn are_inside(image: &[u8], base: u32, n: Need, l: Layout, p: Places) -> bool
 }
 
 // An object whose parts are placed, after others with so many elements.
-fn weigh(image: &[u8], base: u32, n: Need, l: Layout, used: u32, p: Places) -> Judged
+fn weigh(
+    image: &[u8],
+    base: u32,
+    n: Need,
+    l: Layout,
+    used: u32,
+    p: Places,
+) -> Result<Standing, PlaceRefusal>
     ensures { told_judged result ≡ weighed image.now base n l used p }
 {
     let total = (used as u64) + elements_of(n, p);
     if ELEMENTS < total {
-        return Judged::Refused { no: CAPACITY };
+        return Err(PlaceRefusal::OverCapacity);
     }
     if are_inside(image, base, n, l, p) {
-        return Judged::Stands(Standing {
-            places: p,
-            total: total,
-        });
+        return Ok(Standing { places: p, total });
     }
-    Judged::Refused { no: OUTSIDE }
+    Err(PlaceRefusal::OutsideImage)
 }
 
-// The judgement of an object, after others with so many elements: where it stands, or the number of its refusal.
-pub fn judge_object(image: &[u8], g: Ground, n: Need, l: Layout, used: u32) -> Judged
+// The judgement of an object, after others with so many elements: where it stands, or its refusal.
+pub fn judge_object(
+    image: &[u8],
+    g: Ground,
+    n: Need,
+    l: Layout,
+    used: u32,
+) -> Result<Standing, PlaceRefusal>
     ensures { told_judged result ≡ judged_object image.now g n l used }
 {
-    let answer = place_parts(image, g, n, l);
-    match answer {
-        Placed::At(s) => {
-            let p = s.places;
-            weigh(image, g.base, n, l, used, p)
-        }
-        Placed::Refused { no } => Judged::Refused { no },
-    }
+    let s = place_parts(image, g, n, l)?;
+    weigh(image, g.base, n, l, used, s.places)
 }

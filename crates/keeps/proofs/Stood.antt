@@ -20,7 +20,7 @@ use Rattle.place.specs.Inside.{inside}
 use Rattle.place.specs.Judge.{all_inside}
 use Rattle.place.specs.Order.{in_order, parts}
 use Rattle.place.specs.Rules.{matching, distinct, counted, sound_layout}
-use Rattle.place.specs.Walk.{start_of, count_stored, count_at, points_of, within, count_xat, count_yat, standing, place_one, step, all_placed, start, placement}
+use Rattle.place.specs.Walk.{start_of, count_stored, count_at, points_of, within, count_x_at, count_y_at, standing, place_one, step, all_placed, start, placement}
 use Rattle.place.specs.Align.{alignment}
 use Rattle.place.specs.declared.judge.Standing.{Standing}
 use Rattle.place.specs.declared.order.Layout.{Layout}
@@ -106,11 +106,11 @@ module _ (g : Ground) (n : Need) (image : List ℕ) where
   unfolding count_at
   at_some kind at most = by-test Some (inside image g.base at (shape_of kind).bytes) (λ t. in_some most _) (λ t. tt)
 
-  x-points : (at bytes : ℕ) (s : Reached) (c : Answer ℕ) → Some c → Points (given s) → Points (count_xat at bytes s c)
+  x-points : (at bytes : ℕ) (s : Reached) (c : Answer ℕ) → Some c → Points (given s) → Points (count_x_at at bytes s c)
   x-points at bytes s (given m) o h = (λ e. o, h.1)
   x-points at bytes s (refused k) o h = tt
 
-  y-points : (at bytes : ℕ) (s : Reached) (c : Answer ℕ) → Some c → Points (given s) → Points (count_yat at bytes s c)
+  y-points : (at bytes : ℕ) (s : Reached) (c : Answer ℕ) → Some c → Points (given s) → Points (count_y_at at bytes s c)
   y-points at bytes s (given m) o h = (h.0, λ e. o)
   y-points at bytes s (refused k) o h = tt
 

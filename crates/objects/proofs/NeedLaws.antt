@@ -4,16 +4,16 @@ use mathlib.Core.Path.{◌≡◌, sym, ◌∙◌, ap}
 use mathlib.Core.List.{List}
 use mathlib.Core.Bool.{true, false}
 use borrow.Author.Tests.{eq-eqb, ne_eqb}
+use Rattle.std.specs.Prelude.{Result, Ok, Err}
 use Rattle.rows.specs.Sections.{object, axis}
 use Rattle.rows.specs.Slots.{block_code, object_type, object_max_points, number_of_values, axis_attribute, axis_max_points, axis_pts_ref, axis_pts_ref_past}
 use Rattle.grammar.specs.Move.{View}
 use Rattle.place.specs.Told.{told_placed}
 use Rattle.place.specs.Walk.{placement}
+use Rattle.place.specs.declared.refusal.PlaceRefusal.{PlaceRefusal}
 use Rattle.place.specs.declared.rules.Axis.{Axis}
 use Rattle.place.specs.declared.rules.Need.{Need}
 use Rattle.place.specs.declared.walk.Reached.{Reached}
-use Rattle.place.specs.declared.walk.Placed.{Placed}
-use Rattle.place.specs.declared.walk.Placed.TheVariants as place
 use Rattle.objects.specs.Object.{led, basis_of, no_axis, own_axis, value_need, axis_pts_need, block_need, axis_at, shared_by, points_in, shared_points, axis_need, curve_need, map_need, characteristic_need, need_of}
 use Rattle.objects.specs.declared.basis.Basis.{Basis}
 
@@ -38,16 +38,16 @@ pub ruleset numbers = (value-is, axis-pts-is, block-is, shared-is)
 
 module _ (image : List ℕ) (base : ℕ) (x : List ℕ) (v : View) where
   -- o is what `basis_of` gave, q what `place_parts` gave
-  module _ (s : ℕ) (o : Basis) (n : Need) (q : Placed) (po : o ≡ basis_of x v base s) (pn : n ≡ axis_pts_need v s) (pq : told_placed q ≡ placement o.footing n image o.layout) where
+  module _ (s : ℕ) (o : Basis) (n : Need) (q : Result Reached PlaceRefusal) (po : o ≡ basis_of x v base s) (pn : n ≡ axis_pts_need v s) (pq : told_placed q ≡ placement o.footing n image o.layout) where
     points-are : points_in (told_placed q) ≡ shared_points image base x v s
     unfolding shared_points
     points-are = rw (pq, po, pn)
 
-    pub points-at : (r : Reached) → q ≡ place.At r → r.places.cx ≡ shared_points image base x v s
-    points-at r y = sym (ap (λ (z : Placed). points_in (told_placed z)) y) ∙ points-are
+    pub points-at : (r : Reached) → q ≡ Ok r → r.places.cx ≡ shared_points image base x v s
+    points-at r y = sym (ap (λ (z : Result Reached PlaceRefusal). points_in (told_placed z)) y) ∙ points-are
 
-    pub points_none : (k : ℕ) → q ≡ place.Refused k → 0 ≡ shared_points image base x v s
-    points_none k y = sym (ap (λ (z : Placed). points_in (told_placed z)) y) ∙ points-are
+    pub points_none : (k : PlaceRefusal) → q ≡ Err k → 0 ≡ shared_points image base x v s
+    points_none k y = sym (ap (λ (z : Result Reached PlaceRefusal). points_in (told_placed z)) y) ∙ points-are
 
   -- m is the AXIS_DESCR's maximum, c the code of its kind
   module _ (a m n c : ℕ) (pm : m ≡ v.slots axis a axis_max_points) (pn : n ≡ min m 256) (pc : c ≡ v.slots axis a axis_attribute) where

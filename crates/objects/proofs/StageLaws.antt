@@ -10,14 +10,14 @@ use lib.ListN.{length, get_or, set, replicate, get_or-eq_default}
 use lib.Seq.{set_out}
 use mir.Syntax.{w32}
 use mir.Val.{Fits}
+use Rattle.std.specs.Prelude.{Result, Ok, Err}
 use Rattle.text.specs.Answer.{Answer, given, refused, with}
 use Rattle.number.specs.Most.{most_objects}
 use Rattle.rows.specs.Sections.{object, axis}
 use Rattle.rows.specs.Slots.{own_name, axis_descr_seen, axis_attribute}
 use Rattle.grammar.specs.Move.{View}
-use Rattle.place.specs.Told.{told_judged}
-use Rattle.place.specs.declared.judge.Judged.{Judged}
-use Rattle.place.specs.declared.judge.Judged.TheVariants as judge
+use Rattle.place.specs.Told.{place_refusal_number, told_judged}
+use Rattle.place.specs.declared.refusal.PlaceRefusal.{PlaceRefusal}
 use Rattle.place.specs.declared.judge.Standing.{Standing}
 use Rattle.objects.specs.Object.{axis_at, shared_by, judge_object}
 use Rattle.objects.specs.Stage.{names, named, turns_of, turns_from, total_or, marked, turn, judge_each, Goes, judge_all, told_turn}
@@ -37,15 +37,16 @@ pub ruleset marks = (open-past, mark-past)
 
 module _ (image : List ℕ) (base : ℕ) (x : List ℕ) (v : View) (i used : ℕ) where
   -- r is what `judge_one` gave
-  module _ (r : Judged) (p : told_judged r ≡ judge_object image base x v i used) where
-    pub total-fits : (s : Standing) → r ≡ judge.Stands s → Fits w32 s.total
+  module _ (r : Result Standing PlaceRefusal) (p : told_judged r ≡ judge_object image base x v i used) where
+    pub total-fits : (s : Standing) → r ≡ Ok s → Fits w32 s.total
     total-fits s y = record { fits = omega (arith, (share image base x v i used s (sym p ∙ ap told_judged y)).most) }
 
-    pub weigh-stands : (s : Standing) → r ≡ judge.Stands s → given s.total ≡ total_or (v.slots object i own_name) (judge_object image base x v i used)
+    pub weigh-stands : (s : Standing) → r ≡ Ok s → given s.total ≡ total_or (v.slots object i own_name) (judge_object image base x v i used)
     weigh-stands s y = rw (← p, y)
 
-    pub weigh-refused : (n m : ℕ) → r ≡ judge.Refused n → m ≡ v.slots object i own_name → refused n m ≡ total_or (v.slots object i own_name) (judge_object image base x v i used)
-    weigh-refused n m y q = rw (← p, y, q)
+    pub weigh-refused : (k : PlaceRefusal) (n m : ℕ) → r ≡ Err k → n ≡ place_refusal_number k → m ≡ v.slots object i own_name
+        → refused n m ≡ total_or (v.slots object i own_name) (judge_object image base x v i used)
+    weigh-refused k n m y z q = rw (← p, y, q, z)
 
 pub ruleset weights = (total-fits, weigh-stands, weigh-refused)
 

@@ -9,7 +9,6 @@ use crate::least::least16;
 use grammar::view::{AXIS, OBJECT, slot_of};
 use judge::walk::place_parts;
 use place::rules::{Axis, Need};
-use place::walk::Placed;
 use rows::slots::{
     AXIS_ATTRIBUTE, AXIS_MAX_POINTS, AXIS_PTS_REF, AXIS_PTS_REF_PAST, BLOCK_CODE, FIRST_HELD,
     NUMBER_OF_VALUES, OBJECT_MAX_POINTS, OBJECT_TYPE,
@@ -96,11 +95,8 @@ fn shared_points(image: &[u8], base: u32, x: &[u8], t: &[u64], s: u16) -> u16
     let b = basis_of(x, t, base, s);
     let n = axis_pts_need(t, s);
     match place_parts(image, b.footing, n, b.layout) {
-        Placed::At(r) => {
-            let p = r.places;
-            p.cx
-        }
-        Placed::Refused { no: _ } => 0,
+        Ok(r) => r.places.cx,
+        Err(_) => 0,
     }
 }
 

@@ -15,9 +15,10 @@ use cell::raw::keeps_mask_rule;
 use grammar::view::{OBJECT, slot_of};
 use judge::judge::judge_object;
 use judge::walk::place_parts;
-use place::judge::Judged;
+use place::judge::Standing;
+use place::refusal::PlaceRefusal;
 use place::rules::Need;
-use place::walk::{BREAKS_PLACE, Placed, Places};
+use place::walk::Places;
 use rows::slots::{BIT_MASK, BIT_MASK_SEEN};
 
 // Whether object i's mask keeps its rule, for values of a data type.
@@ -31,7 +32,14 @@ fn mask_fits(t: &[u64], i: u16, kind: u64) -> bool
 }
 
 // The judgement of object i, after others with so many elements.
-pub fn judge_one(image: &[u8], base: u32, x: &[u8], t: &[u64], i: u16, used: u32) -> Judged
+pub fn judge_one(
+    image: &[u8],
+    base: u32,
+    x: &[u8],
+    t: &[u64],
+    i: u16,
+    used: u32,
+) -> Result<Standing, PlaceRefusal>
     ensures { told_judged result ≡ judge_object image.now base x.now (view_in t.now) i used }
 {
     let b = basis_of(x, t, base, i);
@@ -41,7 +49,7 @@ pub fn judge_one(image: &[u8], base: u32, x: &[u8], t: &[u64], i: u16, used: u32
         let n = need_of(image, base, x, t, i);
         return judge_object(image, b.footing, n, l, used);
     }
-    Judged::Refused { no: BREAKS_PLACE }
+    Err(PlaceRefusal::BreaksPlace)
 }
 
 // No places.
@@ -64,7 +72,7 @@ pub fn places_by(image: &[u8], b: Basis, n: Need) -> Places
     ensures { result ≡ places_in (placement b.footing n image.now b.layout) }
 {
     match place_parts(image, b.footing, n, b.layout) {
-        Placed::At(r) => r.places,
-        Placed::Refused { no: _ } => no_places(),
+        Ok(r) => r.places,
+        Err(_) => no_places(),
     }
 }

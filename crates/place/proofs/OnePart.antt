@@ -4,12 +4,9 @@ use mathlib.Core.Path.{◌≡◌, refl, ◌∙◌}
 use mathlib.Core.List.{List, [], ◌∷◌}
 use mathlib.Core.Bool.{Bool, true, false, ◌&&◌, ◌||◌}
 use borrow.Author.Rules.{rules}
-use Rattle.number.specs.Answer.{given}
-use Rattle.cell.specs.Kind.{shape_of}
-use Rattle.cell.specs.declared.kind.Shape.{Shape}
-use Rattle.cell.proofs.Shapes.{bytes-of}
+use Rattle.number.specs.Answer.{Answer, given}
 use Rattle.place.specs.Order.{in_order, parts}
-use Rattle.place.specs.Walk.{start_of, values_at, x_at, place_one, step, all_placed, start}
+use Rattle.place.specs.Walk.{place_one, step, all_placed, start}
 use Rattle.place.specs.declared.order.Layout.{Layout}
 use Rattle.place.specs.declared.order.Role.TheVariants.{Values, PointsX, PointsY, CountX, CountY}
 use Rattle.place.specs.declared.order.Part.{Part}
@@ -40,22 +37,16 @@ module _ (g : Ground) (n : Need) (image : List ℕ) (l : Layout) (o : Reached)
         let x : l.x.present ≡ false = rw v at absent.0 in
         among-absent g n image _ _ _ (absent-order (record { role = PointsX; entry = l.x } ∷ later l) (x, absent.1))
 
-    pub values-only : (t : Shape) (q : Reached) → t ≡ shape_of l.values.kind → q ≡ values_at o.free t.bytes o
-        → given q ≡ all_placed g n image (given (start g n)) (in_order (parts l))
-    unfolding place_one start_of start
-    values-only t q k f = rw (f, k, e, values-step, v)
+    -- its step is place_one's
+    pub values-only : (r : Answer Reached) → r ≡ place_one g n image o (record { role = Values; entry = l.values }) → r ≡ all_placed g n image (given (start g n)) (in_order (parts l))
+    values-only r f = rw (f, e, values-step, v)
 
   module _ (v : l.values.present ≡ false) where
     x-step : all_placed g n image (given (start g n)) (in_order (parts l)) ≡ step g n image (given (start g n)) (record { role = PointsX; entry = l.x })
     unfolding in_order parts
     x-step = past-absent g n image _ _ _ v ∙ among-absent g n image _ _ _ (absent-order (later l) absent.1)
 
-    pub x-only : (t : Shape) (q : Reached) → l.x.present ≡ true → t ≡ shape_of l.x.kind → q ≡ x_at o.free t.bytes o
-        → given q ≡ all_placed g n image (given (start g n)) (in_order (parts l))
-    unfolding place_one start_of start
-    x-only t q w k f = rw (f, k, e, x-step, w)
+    pub x-only : (r : Answer Reached) → r ≡ step g n image (given o) (record { role = PointsX; entry = l.x }) → r ≡ all_placed g n image (given (start g n)) (in_order (parts l))
+    x-only r f = rw (f, e, x-step)
 
-    pub no_part : l.x.present ≡ false → given o ≡ all_placed g n image (given (start g n)) (in_order (parts l))
-    no_part w = rw (e, x-step, w)
-
-pub ruleset only = (bytes-of, values-only, x-only, no_part, rules)
+pub ruleset only = (values-only, x-only, rules)

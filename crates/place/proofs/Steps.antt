@@ -1,10 +1,15 @@
 -- One part after another, by the cases that the code has.
-use Prim.Native.Nat.{ℕ, ◌+◌, ◌<◌, ◌≤◌, ◌^◌}
+use Prim.Native.Nat.{ℕ, ◌+◌, ◌*◌, ◌<◌, ◌≤◌, ◌^◌}
+use native.Mathlib.Nat.{mul-le-mul}
 use native.Mathlib.Omega.{arith}
-use mathlib.Core.Path.{◌≡◌, subst}
+use mathlib.Core.Path.{◌≡◌, refl, sym, ◌∙◌, ap}
 use mathlib.Core.List.{List, [], ◌∷◌}
 use mathlib.Core.Bool.{Bool, true, false, ◌&&◌}
 use borrow.Author.Rules.{rules}
+use Rattle.std.specs.Prelude.{length, get_or, drop}
+use Rattle.std.proofs.lemmas.List.{at_drop_more, at_drop_all}
+use mir.Syntax.{w32}
+use mir.Val.{Fits}
 use Rattle.number.specs.Answer.{Answer, given, refused}
 use Rattle.cell.specs.Kind.{shape_of}
 use Rattle.cell.specs.declared.kind.Shape.{Shape}
@@ -12,18 +17,13 @@ use Rattle.cell.proofs.Shapes.{bytes-of}
 use Rattle.place.specs.Align.{alignment}
 use Rattle.place.specs.Order.{in_order, parts}
 use Rattle.place.specs.Rules.{sound_layout}
-use Rattle.place.specs.Told.{told_count, told_placed}
-use Rattle.place.specs.Walk.{start_of, points_of, within, count_at, values_at, x_at, y_at, count_xat, count_yat, place_one, step, all_placed, start, placement, free_of}
+use Rattle.place.specs.Walk.{start_of, points_of, within, count_at, values_at, x_at, y_at, count_x_at, count_y_at, place_one, step, all_placed, start, placement}
 use Rattle.place.specs.declared.order.Layout.{Layout}
 use Rattle.place.specs.declared.order.Role.TheVariants.{Values, PointsX, PointsY, CountX, CountY}
 use Rattle.place.specs.declared.order.Part.{Part}
 use Rattle.place.specs.declared.rules.Need.{Need}
 use Rattle.place.specs.declared.walk.Ground.{Ground}
 use Rattle.place.specs.declared.walk.Reached.{Reached}
-use Rattle.place.specs.declared.walk.Placed.{Placed}
-use Rattle.place.specs.declared.walk.Placed.TheVariants as place
-use Rattle.place.specs.declared.walk.Counted.{Counted}
-use Rattle.place.specs.declared.walk.Counted.TheVariants as count
 
 -- a start is near the next free address
 pub start-low : (at free : ℕ) → at ≤ free + 255 → free < 2 ^ 62 → at < 2 ^ 63
@@ -47,60 +47,45 @@ module _ (g : Ground) (n : Need) (image : List ℕ) (s : Reached) (p : Part) (t 
   unfolding place_one
   one-y q r h = rw (h, f, a, e, r)
 
-  pub one-count-x : (q : Answer Reached) (c : Answer ℕ) → p.role ≡ CountX → c ≡ count_at image g p.entry.kind at n.x.most
-      → q ≡ count_xat at t.bytes s c → q ≡ place_one g n image s p
+  one-byte : t.bytes * 1 ≡ t.bytes
+  one-byte = omega arith
+
+  pub one-count-x : (q : Reached) (m : ℕ) → p.role ≡ CountX → given m ≡ count_at image g p.entry.kind at n.x.most
+      → q ≡ record { free = at + t.bytes * 1; any = true; places = record { values = s.places.values; x = s.places.x; y = s.places.y; nx = at; ny = s.places.ny; cx = m; cy = s.places.cy } }
+      → given q ≡ place_one g n image s p
   unfolding place_one
-  one-count-x q c r k h = rw (h, k, f, a, e, r)
+  one-count-x q m r k h = rw (h, one-byte) (ap (count_x_at at t.bytes s) k ∙ rw (f, a, e, r))
 
-  pub one-count-y : (q : Answer Reached) (c : Answer ℕ) → p.role ≡ CountY → c ≡ count_at image g p.entry.kind at n.y.most
-      → q ≡ count_yat at t.bytes s c → q ≡ place_one g n image s p
+  pub one-count-y : (q : Reached) (m : ℕ) → p.role ≡ CountY → given m ≡ count_at image g p.entry.kind at n.y.most
+      → q ≡ record { free = at + t.bytes * 1; any = true; places = record { values = s.places.values; x = s.places.x; y = s.places.y; nx = s.places.nx; ny = at; cx = s.places.cx; cy = m } }
+      → given q ≡ place_one g n image s p
   unfolding place_one
-  one-count-y q c r k h = rw (h, k, f, a, e, r)
+  one-count-y q m r k h = rw (h, one-byte) (ap (count_y_at at t.bytes s) k ∙ rw (f, a, e, r))
 
-pub ruleset ones = (bytes-of, start-low, end_low, one-values, one-x, one-y, one-count-x, one-count-y, rules)
+  pub no-count-x : (k : ℕ) → p.role ≡ CountX → refused k ≡ count_at image g p.entry.kind at n.x.most → refused k ≡ place_one g n image s p
+  unfolding place_one
+  no-count-x k r h = ap (count_x_at at t.bytes s) h ∙ rw (f, a, e, r)
 
-module _ (g : Ground) (n : Need) (image : List ℕ) (s : Placed) (p : Part) where
-  pub next-stands : (q : Reached) (r : Answer Reached) → s ≡ place.At q → p.entry.present ≡ true → r ≡ place_one g n image q p → r ≡ step g n image (told_placed s) p
-  next-stands q r e h f = rw (f, e, h)
+  pub no-count-y : (k : ℕ) → p.role ≡ CountY → refused k ≡ count_at image g p.entry.kind at n.y.most → refused k ≡ place_one g n image s p
+  unfolding place_one
+  no-count-y k r h = ap (count_y_at at t.bytes s) h ∙ rw (f, a, e, r)
 
-  pub next-absent : (q : Reached) → s ≡ place.At q → p.entry.present ≡ false → given q ≡ step g n image (told_placed s) p
-  next-absent q e h = rw (e, h)
+pub square-fits : (a b : ℕ) → a < 65536 → b < 65536 → Fits w32 (a * b)
+square-fits a b f g = let k : a ≤ 65535 = omega arith in let l : b ≤ 65535 = omega arith in let p : a * b ≤ 65535 * 65535 = mul-le-mul k l in record { fits = omega (arith, p) }
 
-  pub next-refused : (k : ℕ) → s ≡ place.Refused k → refused k ≡ step g n image (told_placed s) p
-  next-refused k e = rw e
+pub ruleset ones = (bytes-of, start-low, end_low, square-fits, one-values, one-x, one-y, one-count-x, one-count-y, no-count-x, no-count-y, rules)
 
-pub free-at : (s : Placed) (q : Reached) (m : ℕ) → s ≡ place.At q → free_of (told_placed s) < m → q.free < m
-free-at s q m e h = subst (λ (x : Placed). free_of (told_placed x) < m) e h
+module _ (g : Ground) (n : Need) (image : List ℕ) (s : Reached) (p : Part) where
+  pub next-stands : (r : Answer Reached) → p.entry.present ≡ true → r ≡ place_one g n image s p → r ≡ step g n image (given s) p
+  next-stands r h f = rw (f, h)
 
-pub free-near : (s : Placed) (q : Reached) (m k : ℕ) → s ≡ place.At q → m ≤ q.free + k → m ≤ free_of (told_placed s) + k
-free-near s q m k e h = rw e h
+  pub next-absent : p.entry.present ≡ false → given s ≡ step g n image (given s) p
+  next-absent h = rw h
 
 pub at_least : (a b : ℕ) → a ≤ a + b
 at_least a b = omega arith
 
-pub ruleset nexts = (at_least, next-stands, next-absent, next-refused, free-at, free-near, rules)
-
-module _ (at bytes : ℕ) (s : Reached) (c : Counted) where
-  pub count-x-of : (n : ℕ) → c ≡ count.Of n
-      → given (record { free = at + bytes; any = true; places = record { values = s.places.values; x = s.places.x; y = s.places.y; nx = at; ny = s.places.ny; cx = n; cy = s.places.cy } })
-      ≡ count_xat at bytes s (told_count c)
-  count-x-of n e = rw e
-
-  pub count-y-of : (n : ℕ) → c ≡ count.Of n
-      → given (record { free = at + bytes; any = true; places = record { values = s.places.values; x = s.places.x; y = s.places.y; nx = s.places.nx; ny = at; cx = s.places.cx; cy = n } })
-      ≡ count_yat at bytes s (told_count c)
-  count-y-of n e = rw e
-
-  pub count-x-no : (k : ℕ) → c ≡ count.Refused k → refused k ≡ count_xat at bytes s (told_count c)
-  count-x-no k e = rw e
-
-  pub count-y-no : (k : ℕ) → c ≡ count.Refused k → refused k ≡ count_yat at bytes s (told_count c)
-  count-y-no k e = rw e
-
-  pub count-near : bytes ≤ 4 → at + bytes ≤ at + 17179869184
-  count-near h = omega arith
-
-pub ruleset counts-placed = (count-x-of, count-y-of, count-x-no, count-y-no, count-near, rules)
+pub ruleset nexts = (at_least, next-stands, next-absent, rules)
 
 pub start_is : (g : Ground) (n : Need) (x y : ℕ) → x ≡ points_of n.x → y ≡ points_of n.y
     → record { free = g.address; any = false; places = record { values = 0; x = 0; y = 0; nx = 0; ny = 0; cx = x; cy = y } } ≡ start g n
@@ -110,11 +95,37 @@ start_is g n x y e f = rw (e, f)
 pub ruleset started = (start_is, rules)
 
 module _ (g : Ground) (n : Need) (image : List ℕ) (l : Layout) where
-  pub in-turn : (a b c d z : Part) → a ∷ b ∷ c ∷ d ∷ z ∷ [] ≡ in_order (parts l) → (o : Reached) (p q r s u : Answer Reached)
-      → o ≡ start g n → p ≡ step g n image (given o) a → q ≡ step g n image p b → r ≡ step g n image q c → s ≡ step g n image r d → u ≡ step g n image s z
-      → u ≡ all_placed g n image (given (start g n)) (in_order (parts l))
+  all-refused : (k : ℕ) (ps : List Part) → refused k ≡ all_placed g n image (refused k) ps
   unfolding all_placed
-  in-turn a b c d z m o p q r s u i v w x y k = rw (← m, k, y, x, w, v, i)
+  all-refused k [] = refl
+  all-refused k (p ∷ ps) = all-refused k ps
+
+  -- the parts before number i of these stand: placing the rest answers what placing all does, and the next address is low
+  pub record Sorting (ps : List Part) (i : ℕ) (s : Reached) : Type 0 where
+    pub rest : all_placed g n image (given s) (drop i ps) ≡ all_placed g n image (given (start g n)) ps
+    pub low : s.free < 4294967296 + i * 34359738368
+
+  pub sorting-start : (ps : List Part) (o : Reached) → o ≡ start g n → o.free < 4294967296 → Sorting ps 0 o
+  sorting-start ps o e h = record { rest = rw e; low = omega (arith, h) }
+
+  module _ (ps : List Part) (i : ℕ) (s : Reached) (q : Sorting ps i s) where
+    pub sorting-low : i < 5 → s.free < 2 ^ 62
+    sorting-low h = omega (arith, q.low)
+
+    module _ (d : Part) (h : i < length ps) where
+      next : all_placed g n image (step g n image (given s) (get_or ps i d)) (drop (i + 1) ps) ≡ all_placed g n image (given (start g n)) ps
+      unfolding all_placed
+      next = sym (at_drop_more (all_placed g n image (given s)) ps i d h) ∙ q.rest
+
+      pub sorting-next : (t : Reached) → given t ≡ step g n image (given s) (get_or ps i d) → t.free ≤ s.free + 34359738368 → Sorting ps (i + 1) t
+      sorting-next t e l = record { rest = rw (← e) at next; low = omega (arith, q.low, l) }
+
+      pub sorting-stop : (k : ℕ) → refused k ≡ step g n image (given s) (get_or ps i d) → ps ≡ in_order (parts l) → refused k ≡ all_placed g n image (given (start g n)) (in_order (parts l))
+      sorting-stop k e y = all-refused k (drop (i + 1) ps) ∙ (rw (← e) at next) ∙ ap (all_placed g n image (given (start g n))) y
+
+    pub sorting-end : length ps ≤ i → ps ≡ in_order (parts l) → given s ≡ all_placed g n image (given (start g n)) (in_order (parts l))
+    unfolding all_placed
+    sorting-end h y = sym (at_drop_all (all_placed g n image (given s)) ps i h) ∙ q.rest ∙ ap (all_placed g n image (given (start g n))) y
 
   pub unsound : (b : Bool) → b ≡ sound_layout n l → b ≡ false → refused 11 ≡ placement g n image l
   unfolding placement
@@ -128,5 +139,7 @@ module _ (g : Ground) (n : Need) (image : List ℕ) (l : Layout) where
     pub is-placed : (r : Answer Reached) → (x && y) ≡ true → r ≡ all_placed g n image (given (start g n)) (in_order (parts l)) → r ≡ placement g n image l
     unfolding placement
     is-placed r t q = rw (← e, f, ← h, ← k, t, q)
+
+pub ruleset sortings = (sorting-start, sorting-low, sorting-next, sorting-stop, sorting-end, rules)
 
 pub ruleset turns = (unsound, not_within, is-placed, rules)

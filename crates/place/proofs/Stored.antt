@@ -13,7 +13,7 @@ use Rattle.place.specs.Align.{alignment}
 use Rattle.place.specs.Inside.{inside}
 use Rattle.place.specs.Order.{insert, in_order, parts}
 use Rattle.place.specs.Rules.{sound_layout}
-use Rattle.place.specs.Walk.{start_of, count_stored, count_at, points_of, within, count_xat, count_yat, standing, place_one, step, all_placed, start, placement}
+use Rattle.place.specs.Walk.{start_of, count_stored, count_at, points_of, within, count_x_at, count_y_at, standing, place_one, step, all_placed, start, placement}
 use Rattle.place.specs.declared.order.Entry.{Entry}
 use Rattle.place.specs.declared.order.Layout.{Layout}
 use Rattle.place.specs.declared.order.Part.{Part}
@@ -142,11 +142,11 @@ module _ (g : Ground) (n : Need) (image : List ℕ) (l : Layout) where
   or_right true = refl
   or_right false = refl
 
-  x-fine : (a b : Bool) (e : Entry) (at bytes : ℕ) (s : Reached) (c : Answer ℕ) → e ≡ l.nx → Held a b s.places → Counted n.x.most e at c → HeldIn true b (count_xat at bytes s c)
+  x-fine : (a b : Bool) (e : Entry) (at bytes : ℕ) (s : Reached) (c : Answer ℕ) → e ≡ l.nx → Held a b s.places → Counted n.x.most e at c → HeldIn true b (count_x_at at bytes s c)
   x-fine a b e at bytes s (given m) o h c = record { count_x = λ _. subst (λ z. CountInside z at) o c.0; count_y = h.count_y; points_x = c.1; points_y = h.points_y }
   x-fine a b e at bytes s (refused k) o h c = tt
 
-  y-fine : (a b : Bool) (e : Entry) (at bytes : ℕ) (s : Reached) (c : Answer ℕ) → e ≡ l.ny → Held a b s.places → Counted n.y.most e at c → HeldIn a true (count_yat at bytes s c)
+  y-fine : (a b : Bool) (e : Entry) (at bytes : ℕ) (s : Reached) (c : Answer ℕ) → e ≡ l.ny → Held a b s.places → Counted n.y.most e at c → HeldIn a true (count_y_at at bytes s c)
   y-fine a b e at bytes s (given m) o h c = record { count_x = h.count_x; count_y = λ _. subst (λ z. CountInside z at) o c.0; points_x = h.points_x; points_y = c.1 }
   y-fine a b e at bytes s (refused k) o h c = tt
 

@@ -9,6 +9,7 @@ use borrow.Author.Tests.{le-leb, lt-leb}
 use borrow.Author.Rules.{rules}
 use mir.Syntax.{w64}
 use mir.Val.{Fits}
+use Rattle.std.specs.Prelude.{Result, Ok, Err}
 use Rattle.number.specs.Answer.{Answer, given, refused}
 use Rattle.number.specs.Most.{most_elements}
 use Rattle.cell.specs.Kind.{shape_of}
@@ -16,17 +17,16 @@ use Rattle.cell.specs.declared.kind.Shape.{Shape}
 use Rattle.cell.proofs.Shapes.{bytes-of}
 use Rattle.place.specs.Inside.{inside}
 use Rattle.place.specs.Judge.{bytes_of, elements_stored, all_inside, weighed, judged_object}
-use Rattle.place.specs.Told.{told_placed}
+use Rattle.place.specs.Told.{place_refusal_number, told_placed}
 use Rattle.place.specs.Walk.{placement}
 use Rattle.place.specs.declared.judge.Standing.{Standing}
 use Rattle.place.specs.declared.order.Entry.{Entry}
 use Rattle.place.specs.declared.order.Layout.{Layout}
 use Rattle.place.specs.declared.rules.Need.{Need}
+use Rattle.place.specs.declared.refusal.PlaceRefusal.{PlaceRefusal}
 use Rattle.place.specs.declared.walk.Ground.{Ground}
 use Rattle.place.specs.declared.walk.Places.{Places}
 use Rattle.place.specs.declared.walk.Reached.{Reached}
-use Rattle.place.specs.declared.walk.Placed.{Placed}
-use Rattle.place.specs.declared.walk.Placed.TheVariants as place
 use Rattle.place.proofs.Counts.{square}
 
 pub byte-count : (t : Shape) (e : Entry) (k : ℕ) → t ≡ shape_of e.kind → t.bytes * k ≡ bytes_of e k
@@ -82,12 +82,12 @@ module _ (image : List ℕ) (base : ℕ) (n : Need) (l : Layout) (used : ℕ) (p
 
 pub ruleset weights = (weigh-over, weigh-fine, weigh-out, rules)
 
-module _ (image : List ℕ) (g : Ground) (n : Need) (l : Layout) (used : ℕ) (r : Placed) (q : told_placed r ≡ placement g n image l) where
-  pub judged-at : (s : Reached) (j : Answer Standing) → r ≡ place.At s → j ≡ weighed image g.base n l used s.places → j ≡ judged_object image g n l used
+module _ (image : List ℕ) (g : Ground) (n : Need) (l : Layout) (used : ℕ) (r : Result Reached PlaceRefusal) (q : told_placed r ≡ placement g n image l) where
+  pub judged-at : (s : Reached) (j : Answer Standing) → r ≡ Ok s → j ≡ weighed image g.base n l used s.places → j ≡ judged_object image g n l used
   unfolding judged_object
   judged-at s j e f = rw (← q, e, f)
 
-  pub judged-no : (k : ℕ) → r ≡ place.Refused k → refused k ≡ judged_object image g n l used
+  pub judged-no : (k : PlaceRefusal) → r ≡ Err k → refused (place_refusal_number k) ≡ judged_object image g n l used
   unfolding judged_object
   judged-no k e = rw (← q, e)
 

@@ -3,10 +3,6 @@ use Rattle.std.specs.Prelude.{List, [], ◌∷◌, cond, ltb}
 use Rattle.place.specs.declared.order.Layout.{Layout}
 use Rattle.place.specs.declared.order.Role.TheVariants.{Values, PointsX, PointsY, CountX, CountY}
 use Rattle.place.specs.declared.order.Part.{Part}
-use Rattle.place.specs.declared.order.Two.{Two}
-use Rattle.place.specs.declared.order.Three.{Three}
-use Rattle.place.specs.declared.order.Four.{Four}
-use Rattle.place.specs.declared.order.Five.{Five}
 
 -- A part put before the first of a later position.
 unfoldable pub insert : Part → List Part → List Part
@@ -24,15 +20,11 @@ parts l =
     record { role = Values; entry = l.values } ∷ record { role = PointsX; entry = l.x } ∷ record { role = PointsY; entry = l.y }
     ∷ record { role = CountX; entry = l.nx } ∷ record { role = CountY; entry = l.ny } ∷ []
 
--- The code's rows of parts, as lists.
-abbrev pub two : Two → List Part
-two s = s.a ∷ s.b ∷ []
+-- The first of some parts put among the others.
+unfoldable pub put_first : List Part → List Part
+put_first [] = []
+put_first (p ∷ ps) = insert p ps
 
-abbrev pub three : Three → List Part
-three s = s.a ∷ s.b ∷ s.c ∷ []
-
-abbrev pub four : Four → List Part
-four s = s.a ∷ s.b ∷ s.c ∷ s.d ∷ []
-
-abbrev pub five : Five → List Part
-five s = s.a ∷ s.b ∷ s.c ∷ s.d ∷ s.e ∷ []
+-- The code's row of parts, as a list.
+abbrev pub five : List Part → List Part
+five s = s

@@ -57,24 +57,24 @@ y_at at bytes s =
     record { free = at + bytes * p.cy; any = true; places = record { values = p.values; x = p.x; y = at; nx = p.nx; ny = p.ny; cx = p.cx; cy = p.cy } }
 
 -- A count part stands at an address: from here on its axis has as many points.
-abbrev pub count_xat : ℕ → ℕ → Reached → Answer ℕ → Answer Reached
-count_xat at bytes s (given n) =
+abbrev pub count_x_at : ℕ → ℕ → Reached → Answer ℕ → Answer Reached
+count_x_at at bytes s (given n) =
     let p = s.places in
     given (record { free = at + bytes; any = true; places = record { values = p.values; x = p.x; y = p.y; nx = at; ny = p.ny; cx = n; cy = p.cy } })
-count_xat at bytes s (refused k) = refused k
+count_x_at at bytes s (refused k) = refused k
 
-abbrev pub count_yat : ℕ → ℕ → Reached → Answer ℕ → Answer Reached
-count_yat at bytes s (given n) =
+abbrev pub count_y_at : ℕ → ℕ → Reached → Answer ℕ → Answer Reached
+count_y_at at bytes s (given n) =
     let p = s.places in
     given (record { free = at + bytes; any = true; places = record { values = p.values; x = p.x; y = p.y; nx = p.nx; ny = at; cx = p.cx; cy = n } })
-count_yat at bytes s (refused k) = refused k
+count_y_at at bytes s (refused k) = refused k
 
 abbrev pub standing : Ground → Need → List ℕ → ℕ → ℕ → Reached → Role → Answer Reached
 standing g n image kind at s Values = given (values_at at (shape_of kind).bytes s)
 standing g n image kind at s PointsX = given (x_at at (shape_of kind).bytes s)
 standing g n image kind at s PointsY = given (y_at at (shape_of kind).bytes s)
-standing g n image kind at s CountX = count_xat at (shape_of kind).bytes s (count_at image g kind at n.x.most)
-standing g n image kind at s CountY = count_yat at (shape_of kind).bytes s (count_at image g kind at n.y.most)
+standing g n image kind at s CountX = count_x_at at (shape_of kind).bytes s (count_at image g kind at n.x.most)
+standing g n image kind at s CountY = count_y_at at (shape_of kind).bytes s (count_at image g kind at n.y.most)
 
 -- One part that the layout has, after those before it.
 unfoldable pub place_one : Ground → Need → List ℕ → Reached → Part → Answer Reached

@@ -3,5 +3,6 @@
 
 pub mod judge;
 pub mod order;
+pub mod refusal;
 pub mod rules;
 pub mod walk;

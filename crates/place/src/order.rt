@@ -1,6 +1,6 @@
 // "Parts stand in order of Position."
-ghost use Rattle.std.specs.Prelude.{◌≡◌, [], ◌∷◌};
-ghost use Rattle.place.specs.Order.{insert, two, three, four, five, parts, in_order};
+ghost use Rattle.std.specs.Prelude.{◌≡◌};
+ghost use Rattle.place.specs.Order.{put_first, five, parts, in_order};
 
 // What a layout says of one part: whether it has it, its Position and its data type.
 #[derive(Clone, Copy)]
@@ -45,151 +45,47 @@ pub struct Part {
     pub entry: Entry,
 }
 
-// Parts in a row, two to five of them.
-#[derive(Clone, Copy)]
-pub struct Two {
-    pub a: Part,
-    pub b: Part,
-}
-
-#[derive(Clone, Copy)]
-pub struct Three {
-    pub a: Part,
-    pub b: Part,
-    pub c: Part,
-}
-
-#[derive(Clone, Copy)]
-pub struct Four {
-    pub a: Part,
-    pub b: Part,
-    pub c: Part,
-    pub d: Part,
-}
-
-#[derive(Clone, Copy)]
-pub struct Five {
-    pub a: Part,
-    pub b: Part,
-    pub c: Part,
-    pub d: Part,
-    pub e: Part,
-}
-
-// A part put among one that stands.
-fn among_one(p: Part, q: Part) -> Two
-    ensures { two result ≡ insert p (q ∷ []) }
+// The first of some parts is put among the others, which are in order.
+fn put_first(s: &mut [Part])
+    ensures { s.new ≡ put_first s.old }
 {
-    if p.entry.position < q.entry.position {
-        return Two { a: p, b: q };
-    }
-    Two { a: q, b: p }
-}
-
-// A part put among two in order.
-fn among_two(p: Part, s: Two) -> Three
-    ensures { three result ≡ insert p (two s) }
-{
-    let a = s.a;
-    let b = s.b;
-    if p.entry.position < a.entry.position {
-        return Three { a: p, b: a, c: b };
-    }
-    let t = among_one(p, b);
-    let c = t.a;
-    let d = t.b;
-    Three { a: a, b: c, c: d }
-}
-
-// A part put among three in order.
-fn among_three(p: Part, s: Three) -> Four
-    ensures { four result ≡ insert p (three s) }
-{
-    let a = s.a;
-    let b = s.b;
-    let c = s.c;
-    if p.entry.position < a.entry.position {
-        return Four {
-            a: p,
-            b: a,
-            c: b,
-            d: c,
-        };
-    }
-    let t = among_two(p, Two { a: b, b: c });
-    let d = t.a;
-    let e = t.b;
-    let f = t.c;
-    Four {
-        a: a,
-        b: d,
-        c: e,
-        d: f,
-    }
-}
-
-// A part put among four in order.
-fn among_four(p: Part, s: Four) -> Five
-    ensures { five result ≡ insert p (four s) }
-{
-    let a = s.a;
-    let b = s.b;
-    let c = s.c;
-    let d = s.d;
-    if p.entry.position < a.entry.position {
-        return Five {
-            a: p,
-            b: a,
-            c: b,
-            d: c,
-            e: d,
-        };
-    }
-    let t = among_three(p, Three { a: b, b: c, c: d });
-    let e = t.a;
-    let f = t.b;
-    let g = t.c;
-    let h = t.d;
-    Five {
-        a: a,
-        b: e,
-        c: f,
-        d: g,
-        e: h,
+    for i in 1..s.len() {
+        if s[i - 1].entry.position < s[i].entry.position {
+            return;
+        }
+        s.swap(i - 1, i);
     }
 }
 
 // The five parts in order of Position.
-pub fn in_order(l: Layout) -> Five
+pub fn in_order(l: Layout) -> [Part; 5]
     ensures { five result ≡ in_order (parts l) }
 {
-    let v = l.values;
-    let x = l.x;
-    let y = l.y;
-    let nx = l.nx;
-    let ny = l.ny;
-    let a = Part {
-        role: Role::Values,
-        entry: v,
-    };
-    let b = Part {
-        role: Role::PointsX,
-        entry: x,
-    };
-    let c = Part {
-        role: Role::PointsY,
-        entry: y,
-    };
-    let d = Part {
-        role: Role::CountX,
-        entry: nx,
-    };
-    let e = Part {
-        role: Role::CountY,
-        entry: ny,
-    };
-    let s = among_one(d, e);
-    let t = among_two(c, s);
-    let u = among_three(b, t);
-    among_four(a, u)
+    let mut s = [
+        Part {
+            role: Role::Values,
+            entry: l.values,
+        },
+        Part {
+            role: Role::PointsX,
+            entry: l.x,
+        },
+        Part {
+            role: Role::PointsY,
+            entry: l.y,
+        },
+        Part {
+            role: Role::CountX,
+            entry: l.nx,
+        },
+        Part {
+            role: Role::CountY,
+            entry: l.ny,
+        },
+    ];
+    put_first(&mut s[3..]);
+    put_first(&mut s[2..]);
+    put_first(&mut s[1..]);
+    put_first(&mut s);
+    s
 }

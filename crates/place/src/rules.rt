@@ -1,6 +1,6 @@
 // The rules of place that a layout keeps.
 ghost use Rattle.std.specs.Prelude.{◌≡◌};
-ghost use Rattle.place.specs.Rules.{apart, comes_before, distinct, counted, same, matching, sound_layout};
+ghost use Rattle.place.specs.Rules.{apart, comes_before, distinct, counted, matching, sound_layout};
 
 use crate::order::{Entry, Layout};
 
@@ -25,24 +25,14 @@ pub struct Need {
 fn are_apart(p: Entry, q: Entry) -> bool
     ensures { result ≡ apart p q }
 {
-    if p.present {
-        if q.present {
-            return p.position != q.position;
-        }
-    }
-    true
+    !(p.present & q.present & (p.position == q.position))
 }
 
 // Of two parts that both stand, the first comes before.
 fn is_before(p: Entry, q: Entry) -> bool
     ensures { result ≡ comes_before p q }
 {
-    if p.present {
-        if q.present {
-            return p.position < q.position;
-        }
-    }
-    true
+    !(p.present & q.present) | (p.position < q.position)
 }
 
 // No two parts have equal positions.
@@ -65,38 +55,21 @@ fn all_apart(l: Layout) -> bool
 fn are_counted(l: Layout) -> bool
     ensures { result ≡ counted l }
 {
-    let v = l.values;
-    let x = l.x;
-    let y = l.y;
-    let nx = l.nx;
-    let ny = l.ny;
-    is_before(nx, x) & is_before(nx, v) & is_before(ny, y) & is_before(ny, v)
-}
-
-// Whether two flags are the same.
-fn are_same(a: bool, b: bool) -> bool
-    ensures { result ≡ same a b }
-{
-    if a {
-        return b;
-    }
-    !b
+    is_before(l.nx, l.x)
+        & is_before(l.nx, l.values)
+        & is_before(l.ny, l.y)
+        & is_before(l.ny, l.values)
 }
 
 // The parts that the object needs, and no others.
 fn are_matching(n: Need, l: Layout) -> bool
     ensures { result ≡ matching n l }
 {
-    let v = l.values;
-    let x = l.x;
-    let y = l.y;
-    let nx = l.nx;
-    let ny = l.ny;
-    are_same(n.values, v.present)
-        & are_same(n.x.stored, x.present)
-        & are_same(n.y.stored, y.present)
-        & (n.x.stored | !nx.present)
-        & (n.y.stored | !ny.present)
+    (n.values == l.values.present)
+        & (n.x.stored == l.x.present)
+        & (n.y.stored == l.y.present)
+        & (n.x.stored | !l.nx.present)
+        & (n.y.stored | !l.ny.present)
 }
 
 // Whether a layout keeps the rules of place for its object.

@@ -1,15 +1,6 @@
 // Where an object stands, and how far its parts are placed: the types. The crate `judge` places them.
 use crate::order::Aligns;
 
-// A layout breaks the rules of place.
-pub const BREAKS_PLACE: u8 = 11;
-
-// A byte outside the image.
-pub const OUTSIDE: u8 = 12;
-
-// A count out of range.
-pub const BAD_COUNT: u8 = 13;
-
 // Where an object and the image stand, whether its byte order is MSB_FIRST, and the alignment words in force.
 #[derive(Clone, Copy)]
 pub struct Ground {
@@ -37,18 +28,4 @@ pub struct Reached {
     pub free: u64,
     pub any: bool,
     pub places: Places,
-}
-
-// The parts placed so far, or the number of the first refusal.
-#[derive(Clone, Copy)]
-pub enum Placed {
-    At(Reached),
-    Refused { no: u8 },
-}
-
-// A stored count, or the number of its refusal.
-#[derive(Clone, Copy)]
-pub enum Counted {
-    Of(u16),
-    Refused { no: u8 },
 }

@@ -31,7 +31,7 @@ use Rattle.place.specs.Align.{alignment}
 use Rattle.place.specs.Inside.{inside}
 use Rattle.place.specs.Order.{in_order, parts}
 use Rattle.place.specs.Rules.{sound_layout}
-use Rattle.place.specs.Walk.{start_of, count_stored, count_at, within, count_xat, count_yat, standing, place_one, step, all_placed, start, placement}
+use Rattle.place.specs.Walk.{start_of, count_stored, count_at, within, count_x_at, count_y_at, standing, place_one, step, all_placed, start, placement}
 use Rattle.place.specs.Judge.{elements_stored, all_inside, weighed, after, judged_object}
 use Rattle.place.specs.declared.judge.Standing.{Standing}
 use Rattle.place.specs.declared.order.Layout.{Layout}
@@ -73,11 +73,11 @@ module _ (g : Ground) (n : Need) (image : List ℕ) where
       by-test (λ (a : number.Answer ℕ). Numbered a) (inside image g.base at (shape_of kind).bytes)
       (λ t. in-numbered most (raw_at g.first (at - g.base) (shape_of kind) 0 image)) (λ t. omega arith)
 
-  x-numbered : (at bytes : ℕ) (s : Reached) (a : number.Answer ℕ) → Numbered a → R (count_xat at bytes s a)
+  x-numbered : (at bytes : ℕ) (s : Reached) (a : number.Answer ℕ) → Numbered a → R (count_x_at at bytes s a)
   x-numbered at bytes s (number.given m) h = tt
   x-numbered at bytes s (number.refused k) h = h
 
-  y-numbered : (at bytes : ℕ) (s : Reached) (a : number.Answer ℕ) → Numbered a → R (count_yat at bytes s a)
+  y-numbered : (at bytes : ℕ) (s : Reached) (a : number.Answer ℕ) → Numbered a → R (count_y_at at bytes s a)
   y-numbered at bytes s (number.given m) h = tt
   y-numbered at bytes s (number.refused k) h = h
 

@@ -13,7 +13,6 @@ use decimals::decimal_of;
 use fraction::fraction::fraction_of;
 use judge::judge::judge_object;
 use number::decimal::{Decimal, DecimalAnswer};
-use place::judge::Judged;
 use place::order::{Aligns, Entry, Layout};
 use place::rules::{Axis, Need};
 use place::walk::Ground;
@@ -186,13 +185,13 @@ fn stands(rt: &impl Print, image: &[u8]) -> io::Result<()> {
     };
     let answer = judge_object(image, ground, curve(), layout, 0);
     match answer {
-        Judged::Stands(s) => {
+        Ok(s) => {
             print_address(rt, s.places.x)?;
             print_address(rt, s.places.values)?;
             rt.print(" ")?;
             rt.print(s.places.cx)
         }
-        Judged::Refused { no } => print_refusal(rt, no),
+        Err(r) => print_refusal(rt, r.number()),
     }
 }
 

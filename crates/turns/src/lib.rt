@@ -12,7 +12,6 @@ use grammar::view::{AXIS, OBJECT, count_of, slot_of};
 use objects::need::{axis_at, shared_by};
 use objects::object::judge_one;
 use objects::stage::Turn;
-use place::judge::Judged;
 use rows::slots::{AXIS_ATTRIBUTE, AXIS_DESCR_SEEN, OWN_NAME};
 use words::codes::COM_AXIS;
 
@@ -42,10 +41,13 @@ fn weigh(image: &[u8], base: u32, x: &[u8], t: &[u64], i: u16, used: u32) -> Tur
     ensures { told_turn result ≡ total_or ((view_in t.now).slots object i own_name) (judge_object image.now base x.now (view_in t.now) i used) }
 {
     match judge_one(image, base, x, t, i, used) {
-        Judged::Stands(s) => Turn::Total(s.total as u32),
-        Judged::Refused { no } => {
+        Ok(s) => Turn::Total(s.total as u32),
+        Err(r) => {
             let place = slot_of(t, OBJECT, i, OWN_NAME) as usize;
-            Turn::Refused { no, place }
+            Turn::Refused {
+                no: r.number(),
+                place,
+            }
         }
     }
 }

@@ -1,4 +1,4 @@
--- `convert::method::all_small_lem` meets its contract. Assumes nothing.
+-- `convert::method::all_small` meets its contract. Assumes nothing.
 use Rattle.convert.proofs.MethodLaws.{coefficients}
 use Rattle.convert.proofs.method.all_small.Goals as goal
 

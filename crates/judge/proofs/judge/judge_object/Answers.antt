@@ -2,8 +2,8 @@
 use Rattle.place.proofs.Weights.{judgements}
 use Rattle.judge.proofs.judge.judge_object.Goals as goal
 
-pub returns-in-At : goal.returns-in-At
-returns-in-At c = search judgements
+pub returns-in_err-s : goal.returns-in_err-s
+returns-in_err-s c = search judgements
 
-pub returns-in-Refused : goal.returns-in-Refused
-returns-in-Refused c = search judgements
+pub returns : goal.returns
+returns c = search judgements

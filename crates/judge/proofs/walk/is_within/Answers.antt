@@ -1,4 +1,4 @@
--- `judge::walk::is_within_lem` meets its contract. Assumes nothing.
+-- `judge::walk::is_within` meets its contract. Assumes nothing.
 use Rattle.place.proofs.Counts.{axes}
 use Rattle.judge.proofs.walk.is_within.Goals as goal
 

@@ -1,6 +1,18 @@
 -- `judge::walk::place_sorted` meets its contract. Assumes nothing.
-use Rattle.place.proofs.Steps.{in-turn}
+use Rattle.place.proofs.Steps.{sortings}
 use Rattle.judge.proofs.walk.place_sorted.Goals as goal
 
+pub loop-p-init : goal.loop-p-init
+loop-p-init c = search sortings
+
+pub place_next-requires : goal.place_next-requires
+place_next-requires c = search sortings
+
+pub returns-in_err-s : goal.returns-in_err-s
+returns-in_err-s c = search sortings
+
+pub loop-p-preserved : goal.loop-p-preserved
+loop-p-preserved c = search (c.in_ok-s.ensures, sortings)
+
 pub returns : goal.returns
-returns c = in-turn _ _ _ _ _ _ _ _ _ c.in_order-o.ensures _ _ _ _ _ _ c.started.ensures.0 c.place_next-s1.ensures.0 c.place_next-s2.ensures.0 c.place_next-s3.ensures.0 c.place_next-s4.ensures.0 c.place_next.ensures.0
+returns c = search sortings

@@ -1,8 +1,8 @@
 use Rattle.objects.proofs.NeedLaws.{points}
 use Rattle.objects.proofs.need.shared_points.Goals as goal
 
-pub returns-in-At : goal.returns-in-At
-returns-in-At c = search points
+pub returns-in-Ok : goal.returns-in-Ok
+returns-in-Ok c = search points
 
-pub returns-in-Refused : goal.returns-in-Refused
-returns-in-Refused c = search points
+pub returns-in-Err : goal.returns-in-Err
+returns-in-Err c = search points

@@ -1,4 +1,4 @@
--- `place::rules::all_apart_lem` meets its contract. Assumes nothing.
+-- `place::rules::all_apart` meets its contract. Assumes nothing.
 use Rattle.place.proofs.Orders.{ten}
 use Rattle.place.proofs.rules.all_apart.Goals as goal
 

@@ -1,12 +1,8 @@
 -- `place::rules::is_before` meets its contract. Assumes nothing.
-use Rattle.place.proofs.Orders.{pairs}
+use Rattle.std.proofs.Common.{refl}
+use Rattle.place.specs.Rules.{comes_before, both}
 use Rattle.place.proofs.rules.is_before.Goals as goal
 
-pub returns-then-q : goal.returns-then-q
-returns-then-q c = search pairs
-
-pub returns-else-q : goal.returns-else-q
-returns-else-q c = search pairs
-
-pub returns-else-p : goal.returns-else-p
-returns-else-p c = search pairs
+pub returns : goal.returns
+unfolding comes_before both
+returns c = refl

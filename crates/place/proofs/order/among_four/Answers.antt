@@ -1,9 +1,0 @@
--- `place::order::among_four` meets its contract. Assumes nothing.
-use Rattle.place.proofs.Orders.{orders}
-use Rattle.place.proofs.order.among_four.Goals as goal
-
-pub returns-then-p-a : goal.returns-then-p-a
-returns-then-p-a c = search orders
-
-pub returns : goal.returns
-returns c = search orders

@@ -1,7 +1,5 @@
 -- The laws behind the contracts, those that callers cite, and worked examples.
-pub mod Passing
 pub mod Lengths
 pub mod Tables
-pub mod Cases
 pub mod Laws
 pub mod Examples

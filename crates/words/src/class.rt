@@ -1,17 +1,13 @@
 // The class of a word.
-ghost use Rattle.std.specs.Prelude.{◌≡◌, ◌+◌, ◌≤◌, length, take, drop};
+ghost use Rattle.std.specs.Prelude.{◌≡◌, map};
 ghost use Rattle.words.specs.Class.{class_of, class_at};
+ghost use Rattle.words.specs.Row.{kind_in};
 ghost use Rattle.words.specs.Told.{told_class};
-ghost use Rattle.words.specs.Inner.{kind_of};
+ghost use Rattle.words.specs.Inner.{told_row};
 
-use crate::kinds::{
-    CODES, LISTED_ONLY, SKIPPED_BLOCK, SKIPPED_PLAIN, TAKEN_BLOCK, TAKEN_CHOICE, TAKEN_PLAIN,
-    UNLISTED,
-};
-use crate::{
-    of_0_to_4, of_5, of_6, of_7, of_8, of_9, of_10, of_11, of_12, of_13, of_14, of_15_to_16,
-    of_17_to_18, of_19_to_28,
-};
+use crate::of_3_to_8::*;
+use crate::of_9_to_13::*;
+use crate::of_14_to_28::*;
 
 // What document 01 does with a word, with its code.
 #[derive(Clone, Copy)]
@@ -25,43 +21,49 @@ pub enum Class {
     Unlisted,
 }
 
-// The class that a number of the table stands for.
-fn class_from(k: u16) -> Class
-    ensures { told_class result ≡ kind_of k }
+// The class of a word, looked for among those of its length.
+#[tactic(auto, using(crate::proofs::Tables::passing))]
+fn among<const N: usize>(word: &[u8], rows: &[([u8; N], Class)]) -> Class
+    ensures { told_class result ≡ kind_in (map told_row rows.now) word.now }
 {
-    let code = (k % CODES) as u8;
-    match k - k % CODES {
-        TAKEN_BLOCK => Class::TakenBlock(code),
-        TAKEN_PLAIN => Class::TakenPlain(code),
-        TAKEN_CHOICE => Class::TakenChoice(code),
-        SKIPPED_BLOCK => Class::SkippedBlock(code),
-        SKIPPED_PLAIN => Class::SkippedPlain(code),
-        LISTED_ONLY => Class::ListedOnly,
-        _ => Class::Unlisted,
+    for (letters, class) in rows {
+        if letters.as_slice() == word {
+            return *class;
+        }
     }
+    Class::Unlisted
 }
 
-// The number that stands for the kind of the n bytes from a place on, looked for among the words of their length.
-fn number_of(s: &[u8], from: usize, n: usize) -> u16
-    requires { from + n ≤ length s.now }
-    ensures { kind_of result ≡ class_of (take n (drop from s.now)) }
+// The class of a word.
+#[tactic(auto, using(crate::proofs::Lengths::by_length), unfolding(crate::specs::Table::word_rows, crate::specs::Row::word, crate::specs::Row::bytes))]
+fn class_of_word(word: &[u8]) -> Class
+    ensures { told_class result ≡ class_of word.now }
 {
-    match n {
-        0..=4 => of_0_to_4::number_of(s, from, n),
-        5 => of_5::number_of(s, from, n),
-        6 => of_6::number_of(s, from, n),
-        7 => of_7::number_of(s, from, n),
-        8 => of_8::number_of(s, from, n),
-        9 => of_9::number_of(s, from, n),
-        10 => of_10::number_of(s, from, n),
-        11 => of_11::number_of(s, from, n),
-        12 => of_12::number_of(s, from, n),
-        13 => of_13::number_of(s, from, n),
-        14 => of_14::number_of(s, from, n),
-        15..=16 => of_15_to_16::number_of(s, from, n),
-        17..=18 => of_17_to_18::number_of(s, from, n),
-        19..=28 => of_19_to_28::number_of(s, from, n),
-        _ => UNLISTED,
+    match word.len() {
+        3 => among(word, &OF_3),
+        4 => among(word, &OF_4),
+        5 => among(word, &OF_5),
+        6 => among(word, &OF_6),
+        7 => among(word, &OF_7),
+        8 => among(word, &OF_8),
+        9 => among(word, &OF_9),
+        10 => among(word, &OF_10),
+        11 => among(word, &OF_11),
+        12 => among(word, &OF_12),
+        13 => among(word, &OF_13),
+        14 => among(word, &OF_14),
+        15 => among(word, &OF_15),
+        16 => among(word, &OF_16),
+        17 => among(word, &OF_17),
+        18 => among(word, &OF_18),
+        19 => among(word, &OF_19),
+        20 => among(word, &OF_20),
+        21 => among(word, &OF_21),
+        22 => among(word, &OF_22),
+        23 => among(word, &OF_23),
+        24 => among(word, &OF_24),
+        28 => among(word, &OF_28),
+        _ => Class::Unlisted,
     }
 }
 
@@ -69,11 +71,5 @@ fn number_of(s: &[u8], from: usize, n: usize) -> u16
 pub fn class_of(s: &[u8], from: usize, to: usize) -> Class
     ensures { told_class result ≡ class_at s.now from to }
 {
-    if to < from {
-        return Class::Unlisted;
-    }
-    if s.len() < to {
-        return Class::Unlisted;
-    }
-    class_from(number_of(s, from, to - from))
+    s.get(from..to).map_or(Class::Unlisted, class_of_word)
 }

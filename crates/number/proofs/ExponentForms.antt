@@ -1,7 +1,7 @@
 -- A run with an exponent is read exactly if it has the form, and the number that it writes has at most 10 digits and at most 6 after the point.
-use Prim.Native.Nat.{ℕ, zero, suc, ◌+◌, ◌*◌, ◌^◌, ◌<◌, ◌≤◌}
+use Prim.Native.Nat.{ℕ, zero, suc, ◌<◌, ◌≤◌}
 use native.Mathlib.Omega.{arith}
-use mathlib.Core.Path.{◌≡◌, refl, sym, ◌∙◌, ap, subst}
+use mathlib.Core.Path.{◌≡◌, refl, sym, ◌∙◌, ap}
 use mathlib.Core.List.{List, [], ◌∷◌, ◌++◌, append-nil}
 use mathlib.Core.Bool.{Bool, true, false, not, cond, ◌&&◌, ◌||◌}
 use mathlib.Core.Logic.{◌↔◌}
@@ -9,13 +9,13 @@ use borrow.Author.Tests.{le-leb, leb-true, ne_eqb, eqb-true, ltb-true}
 use lib.Dec.{eqb, ltb, leb}
 use lib.ListN.{length, take, drop, get_or, take-append-drop}
 use lib.Seq.{drop-append_seam}
-use Rattle.number.specs.Answer.{Answer, given, refused}
+use Rattle.number.specs.Answer.{Answer, given}
 use Rattle.number.specs.Digits.{digit_of, leading, trailing, value_on, all_digits}
 use Rattle.number.specs.Decimal.{Scaled, Form, signs, minus, is_exponent, exponent_size, point_moved, judged_decimal, moved_decimal, pointed, signed_by, is_e, mantissa, from_e, with_exponent, decimal_of}
-use Rattle.number.specs.Exact.{digits_before, digits_after, digits_number, exponent_bytes, tens_up, tens_down, below_zero, Exact, Sign, no_sign, plus_sign, minus_sign, PointDigits, no_point, point, ExponentForm, SameNumber}
+use Rattle.number.specs.Exact.{digits_before, digits_after, digits_number, exponent_bytes, tens_up, tens_down, below_zero, Exact, Sign, no_sign, plus_sign, minus_sign, PointDigits, no_point, point, ExponentForm}
 use Rattle.number.proofs.Forms.{judged-good}
 use Rattle.number.proofs.Laws.{both, held, first-digits, decimal-form}
-use Rattle.number.proofs.Exponents.{no_digit, digits-none, Is, moved-turn, minus-same, decimal-exact}
+use Rattle.number.proofs.Exponents.{no_digit, digits-none, moved-turn, minus-same, decimal-exact}
 use Rattle.number.proofs.OneReading.{exact_one}
 
 -- ---- from the form to what is read

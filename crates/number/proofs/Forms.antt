@@ -15,20 +15,24 @@ use Rattle.number.specs.Digits.{digit_of, leading, trailing, value_on, all_digit
 use Rattle.number.specs.Decimal.{Scaled, most_whole, most_after, signs, minus, lowest, judged_decimal}
 use Rattle.number.specs.Told.{tenths}
 
-pub none_first : (s : List ℕ) → length s ≡ 0 → get_or s 0 0 ≡ 0
+pub none_first : (s : List ℕ) → length s < 1 → get_or s 0 0 ≡ 0
 none_first [] h = refl
 none_first (b ∷ s) h = absurd (omega arith)
 
 module _ (s : List ℕ) where
-  pub minus-none : length s ≡ 0 → false ≡ minus s
+  pub minus-none : length s < 1 → false ≡ minus s
   unfolding minus
   minus-none h = rw (none_first s h)
 
-  pub minus_is : eqb (get_or s 0 0) 45 ≡ minus s
+  pub minus_is : get_or s 0 0 ≡ 45 → true ≡ minus s
   unfolding minus
-  minus_is = refl
+  minus_is h = rw h
 
-  pub signs-none : length s ≡ 0 → 0 ≡ signs s
+  pub minus-other : (get_or s 0 0 ≡ 45 → ⊥) → false ≡ minus s
+  unfolding minus
+  minus-other h = rw (ne_eqb (get_or s 0 0) 45 h)
+
+  pub signs-none : length s < 1 → 0 ≡ signs s
   unfolding signs
   signs-none h = rw (none_first s h)
 
@@ -44,7 +48,7 @@ module _ (s : List ℕ) where
   unfolding signs
   signs-other h g = rw (ne_eqb (get_or s 0 0) 43 h, ne_eqb (get_or s 0 0) 45 g)
 
-pub ruleset sign-bytes = (minus-none, minus_is, signs-none, signs-plus, signs-minus, signs-other, rules)
+pub ruleset sign-bytes = (minus-none, minus_is, minus-other, signs-none, signs-plus, signs-minus, signs-other, rules)
 
 -- "at most 10 digits and at most 6 after the point; otherwise still 2"
 module _ (d : Scaled) where
@@ -81,15 +85,18 @@ module _ (neg : Bool) where
   lowest-end n zero h = refl
   lowest-end n (suc t) h = absurd (omega arith)
 
-  module _ (n t m k : ℕ) (q : lowest neg m k ≡ lowest neg n t) where
-    pub low-stop : (r : Answer Scaled) → (m % 10 ≡ 0 → ⊥) → 0 < k → r ≡ judged_decimal (tenths neg m k) → r ≡ judged_decimal (lowest neg n t)
-    low-stop r e h p = p ∙ ap judged_decimal (lowest-at m k e h ∙ q)
+  -- k zeros are dropped
+  module _ (n t m k : ℕ) (q : lowest neg m (t - k) ≡ lowest neg n t) where
+    pub low-stop : (r : Answer Scaled) → (m % 10 ≡ 0 → ⊥) → k < t → r ≡ judged_decimal (tenths neg m (t - k)) → r ≡ judged_decimal (lowest neg n t)
+    low-stop r e h p = p ∙ ap judged_decimal (lowest-at m (t - k) e (omega arith) ∙ q)
 
-    pub low-on : m % 10 ≡ 0 → 0 < k → lowest neg (m / 10) (k - 1) ≡ lowest neg n t
-    low-on e h = lowest-on m k e h ∙ q
+    pub low-on : m % 10 ≡ 0 → k < t → lowest neg (m / 10) (t - (k + 1)) ≡ lowest neg n t
+    low-on e h =
+        let p : t - (k + 1) ≡ t - k - 1 = omega arith in
+        rw p (lowest-on m (t - k) e (omega arith)) ∙ q
 
-    pub low_end : (r : Answer Scaled) → k ≤ 0 → r ≡ judged_decimal (tenths (neg && not (eqb m 0)) m 0) → r ≡ judged_decimal (lowest neg n t)
-    low_end r h p = p ∙ ap judged_decimal (lowest-end m k h ∙ q)
+    pub low_end : (r : Answer Scaled) → t ≤ k → r ≡ judged_decimal (tenths (neg && not (eqb m 0)) m 0) → r ≡ judged_decimal (lowest neg n t)
+    low_end r h p = p ∙ ap judged_decimal (lowest-end m (t - k) (omega arith) ∙ q)
 
 pub ruleset lows = (low-stop, low-on, low_end, rules)
 

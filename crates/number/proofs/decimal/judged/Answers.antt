@@ -8,8 +8,5 @@ returns-then-whole-gt-MOST_WHOLE c = search judges
 pub returns-then-tens-gt-MOST_AFTER : goal.returns-then-tens-gt-MOST_AFTER
 returns-then-tens-gt-MOST_AFTER c = search judges
 
-pub overflow_cast-result : goal.overflow_cast-result
-overflow_cast-result c = search judges
-
 pub returns : goal.returns
 returns c = search judges

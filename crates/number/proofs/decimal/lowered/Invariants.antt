@@ -1,10 +1,8 @@
 -- `lowered` meets its contract. The loop keeps the number of the smallest power.
 use mathlib.Core.Path.{◌≡◌}
+use Prim.Native.Nat.{◌-◌}
 use Rattle.number.specs.Decimal.{lowest}
 use Rattle.number.proofs.decimal.lowered.Given as goal
 
 abbrev pub invariant-loop-k : goal.invariant-loop-k
-invariant-loop-k l = lowest l.negative l.m l.k ≡ lowest l.negative l.n l.t
-
-abbrev pub decreases-loop-k : goal.decreases-loop-k
-decreases-loop-k l = l.k
+invariant-loop-k l = lowest l.negative l.m (l.t - l.k) ≡ lowest l.negative l.n l.t

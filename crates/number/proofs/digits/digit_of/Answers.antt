@@ -2,12 +2,6 @@
 use Rattle.number.proofs.Bytes.{digit-bytes}
 use Rattle.number.proofs.digits.digit_of.Goals as goal
 
-pub overflow_sub-result-in-65-to-70 : goal.overflow_sub-result-in-65-to-70
-overflow_sub-result-in-65-to-70 c = search digit-bytes
-
-pub overflow_sub-result-in-97-to-102 : goal.overflow_sub-result-in-97-to-102
-overflow_sub-result-in-97-to-102 c = search digit-bytes
-
 pub returns-in-48-to-57 : goal.returns-in-48-to-57
 returns-in-48-to-57 c = search digit-bytes
 

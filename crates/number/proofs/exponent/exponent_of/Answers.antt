@@ -1,54 +1,49 @@
 -- `exponent_of` meets its contract.
-use Rattle.number.proofs.ExponentLaws.{exponents}
+use Rattle.number.proofs.ExponentLaws.{digit-small, exp-none, exp-long, exp-first, exp-one, exp-first-2, exp-second, exp-two, ten-fits, two-fit, handed}
+use Rattle.std.proofs.Common.{◌<◌, arith}
 use Rattle.number.proofs.exponent.exponent_of.Goals as goal
 
-pub is_minus-down-requires : goal.is_minus-down-requires
-is_minus-down-requires c = search exponents
+pub returns-in_err-by-in-len1 : goal.returns-in_err-by-in-len1
+returns-in_err-by-in-len1 c =
+    rw (handed _ c.from_residual.ensures.0)
+    (exp-first _ _ _ c.sign_len.ensures.0 c.is_minus-down.ensures _ c.decimal_digit.ensures (omega arith) (omega arith) _ c.in_err-by-in-len1.was, omega arith)
 
-pub sign_len-a-requires : goal.sign_len-a-requires
-sign_len-a-requires c = search exponents
+pub returns-in_err-decimal_digit-in-len2 : goal.returns-in_err-decimal_digit-in-len2
+returns-in_err-decimal_digit-in-len2 c =
+    rw (handed _ c.from_residual-in_err-decimal_digit-in-len2.ensures.0)
+    (exp-first-2 _ _ _ c.sign_len.ensures.0 c.is_minus-down.ensures _ c.decimal_digit-in-len2.ensures (omega arith) (omega arith) _ c.in_err-decimal_digit-in-len2.was, omega arith)
 
-pub returns-then-s-a : goal.returns-then-s-a
-returns-then-s-a c = search exponents
+pub overflow_mul-by : goal.overflow_mul-by
+overflow_mul-by c = ten-fits _ (digit-small _ _ c.decimal_digit-in-len2.ensures _ c.in_ok-decimal_digit-in-len2.was)
 
-pub overflow_add-a : goal.overflow_add-a
-overflow_add-a c = search exponents
+pub returns-in_err-by-in-len2 : goal.returns-in_err-by-in-len2
+returns-in_err-by-in-len2 c =
+    rw (handed _ c.from_residual-in_err-by-in-len2.ensures.0) (
+      exp-second _ _ _ c.sign_len.ensures.0 c.is_minus-down.ensures _ c.decimal_digit-in-len2.ensures (omega arith) (omega arith) _ c.in_ok-decimal_digit-in-len2.was
+          _ c.decimal_digit-in-len2-2.ensures _ c.in_err-by-in-len2.was,
+      omega arith,
+    )
 
-pub returns-then-a-s : goal.returns-then-a-s
-returns-then-a-s c = search exponents
+pub overflow_add-by : goal.overflow_add-by
+overflow_add-by c =
+    two-fit _ _ (digit-small _ _ c.decimal_digit-in-len2.ensures _ c.in_ok-decimal_digit-in-len2.was) (digit-small _ _ c.decimal_digit-in-len2-2.ensures _ c.in_ok-by-in-len2.was)
 
-pub bounds-s-a : goal.bounds-s-a
-bounds-s-a c = search exponents
+pub returns-in_default : goal.returns-in_default
+returns-in_default c = (exp-none _ _ _ c.sign_len.ensures.0 c.is_minus-down.ensures (omega arith), omega arith)
 
-pub digit_of-first-requires : goal.digit_of-first-requires
-digit_of-first-requires c = search exponents
+pub returns-in_default-2 : goal.returns-in_default-2
+returns-in_default-2 c = (exp-long _ _ _ c.sign_len.ensures.0 c.is_minus-down.ensures (omega arith), omega arith)
 
-pub returns-then-first-ge10 : goal.returns-then-first-ge10
-returns-then-first-ge10 c = search exponents
+pub returns-in_ok-by-in-len1 : goal.returns-in_ok-by-in-len1
+returns-in_ok-by-in-len1 c =
+    let d : c.in_ok-by-in-len1.by < 10 = digit-small _ _ c.decimal_digit.ensures _ c.in_ok-by-in-len1.was in
+    (exp-one _ _ _ c.sign_len.ensures.0 c.is_minus-down.ensures _ c.decimal_digit.ensures (omega arith) (omega arith) _ c.in_ok-by-in-len1.was, omega (arith, d))
 
-pub overflow_add-a-2 : goal.overflow_add-a-2
-overflow_add-a-2 c = search exponents
-
-pub returns-then-s-a-2 : goal.returns-then-s-a-2
-returns-then-s-a-2 c = search exponents
-
-pub overflow_add-a-3 : goal.overflow_add-a-3
-overflow_add-a-3 c = search exponents
-
-pub bounds-s-a-2 : goal.bounds-s-a-2
-bounds-s-a-2 c = search exponents
-
-pub digit_of-second-requires : goal.digit_of-second-requires
-digit_of-second-requires c = search exponents
-
-pub returns-then-second-ge10 : goal.returns-then-second-ge10
-returns-then-second-ge10 c = search exponents
-
-pub overflow_mul-result : goal.overflow_mul-result
-overflow_mul-result c = search exponents
-
-pub overflow_add-result : goal.overflow_add-result
-overflow_add-result c = search exponents
-
-pub returns : goal.returns
-returns c = search exponents
+pub returns-in_ok-by-in-len2 : goal.returns-in_ok-by-in-len2
+returns-in_ok-by-in-len2 c =
+    let d : c.in_ok-decimal_digit-in-len2.field-0 < 10 = digit-small _ _ c.decimal_digit-in-len2.ensures _ c.in_ok-decimal_digit-in-len2.was in
+    let e : c.in_ok-by-in-len2.field-0 < 10 = digit-small _ _ c.decimal_digit-in-len2-2.ensures _ c.in_ok-by-in-len2.was in (
+      exp-two _ _ _ c.sign_len.ensures.0 c.is_minus-down.ensures _ c.decimal_digit-in-len2.ensures (omega arith) (omega arith) _ c.in_ok-decimal_digit-in-len2.was
+          _ c.decimal_digit-in-len2-2.ensures _ c.in_ok-by-in-len2.was,
+      omega (arith, d, e),
+    )

@@ -16,7 +16,7 @@ use Rattle.number.specs.Decimal.{most_whole}
 use Rattle.number.proofs.Bytes.{left, lead-on, lead-stop, lead-end, value-more}
 use Rattle.number.proofs.Laws.{both, first-digits}
 use Rattle.number.proofs.Tens.{ten-none, ten-last, ten-grows}
-use Rattle.decimals.specs.Inner.{Wide, Full, Adds, KeptDigits}
+use Rattle.decimals.specs.Inner.{Wide, Full, Kept, KeptDigits}
 use Rattle.decimals.specs.declared.gather.Part.{Part}
 
 -- one digit more after more than ten that count
@@ -36,41 +36,33 @@ wide-more n (b ∷ ds) h w =
     wide-more (n * 10 + digit_of b) ds p.1 (wide-digit n (digit_of b) (ltb-true (digit_of b) 10 p.0) w)
 
 -- one digit more, as `added` answers it
-abbrev part : ℕ → ℕ → Part
-part m z = record { m = m; z = z }
+module _ (p : Part) (d : ℕ) (l : d < 10) where
+  no-zeros : (m z : ℕ) → (0 < z → 999999999 < m) → m ≤ 999999999 → z ≡ 0
+  no-zeros m zero h g = refl
+  no-zeros m (suc k) h g = absurd (omega (arith, h (omega arith)))
 
-module _ (m z d : ℕ) (l : d < 10) where
-  no-zeros : (k : ℕ) → Full m k → m ≤ 999999999 → k ≡ 0
-  no-zeros zero h g = refl
-  no-zeros (suc k) h g = absurd (omega (arith, h (omega arith)))
-
-  pub add-short : Full m z → m ≤ 999999999 → Adds (m * 10 ^ z * 10 + d) z (part (m * 10 + d) 0)
+  pub add-short : Full p → p.m ≤ 999999999 → Kept (p.m * 10 ^ p.z * 10 + d) p.z (record { m = p.m * 10 + d; z = 0 })
   add-short f h =
-      let e : m * 10 ^ z ≡ m = ap (λ (k : ℕ). m * 10 ^ k) (no-zeros z f h) ∙ ten-none m in
+      let e : p.m * 10 ^ p.z ≡ p.m = ap (λ (k : ℕ). p.m * 10 ^ k) (no-zeros p.m p.z f h) ∙ ten-none p.m in
       record {
-        kept = λ a. ten-none (m * 10 + d) ∙ ap (λ (x : ℕ). x * 10 + d) (sym e);
-        over = λ a. absurd (omega arith);
+        same = ten-none (p.m * 10 + d) ∙ ap (λ (x : ℕ). x * 10 + d) (sym e);
+        most = omega arith;
         few = omega arith;
         full = λ a. absurd (omega arith);
       }
 
-  module _ (g : 999999999 < m) where
-    pub add-zero : m ≤ most_whole → d ≡ 0 → Adds (m * 10 ^ z * 10 + d) z (part m (z + 1))
+  module _ (g : 999999999 < p.m) where
+    pub add-zero : p.m ≤ most_whole → d ≡ 0 → Kept (p.m * 10 ^ p.z * 10 + d) p.z (record { m = p.m; z = p.z + 1 })
     add-zero h e =
-        let o : m * 10 ^ z * 10 + d ≡ m * 10 ^ z * 10 = omega arith in
-        record { kept = λ a. rw (add-one z) (ten-last m z) ∙ sym o; over = λ a. absurd (omega arith); few = omega arith; full = λ a. g }
+        let o : p.m * 10 ^ p.z * 10 + d ≡ p.m * 10 ^ p.z * 10 = omega arith in
+        record { same = rw (add-one p.z) (ten-last p.m p.z) ∙ sym o; most = h; few = omega arith; full = λ a. g }
 
-    pub add-over : (d ≡ 0 → ⊥) → Adds (m * 10 ^ z * 10 + d) z (part 10000000000 0)
+    pub add-over : (d ≡ 0 → ⊥) → Wide (p.m * 10 ^ p.z * 10 + d)
     add-over e =
-        let n = m * 10 ^ z * 10 + d in
+        let n = p.m * 10 ^ p.z * 10 + d in
         let y : n % 10 ≡ 0 → ⊥ = λ u. e (omega arith) in
-        let v : most_whole < n = omega (arith, ten-grows m z) in
-        record {
-          kept = λ a. absurd (omega arith);
-          over = λ a. record { kept = n; zeros = 0; is = sym (ten-none n); last = y; wide = v };
-          few = omega arith;
-          full = λ a. absurd (omega arith);
-        }
+        let v : most_whole < n = omega (arith, ten-grows p.m p.z) in
+        record { kept = n; zeros = 0; is = sym (ten-none n); last = y; wide = v }
 
 pub ten-fits : (m : ℕ) → m ≤ 999999999 → Fits w64 (m * 10)
 ten-fits m h = record { fits = omega arith }
@@ -81,19 +73,19 @@ sum_fits m d h g = record { fits = omega arith }
 pub ruleset adds = (add-short, add-zero, add-over, ten-fits, sum_fits, rules)
 
 -- what the loop keeps, and what each turn does
-pub record Gathering (s : List ℕ) (at n i m z : ℕ) : Type 0 where
+pub record Gathering (s : List ℕ) (at n i : ℕ) (p : Part) : Type 0 where
   pub place : i + length (leading (left s i)) ≡ at + length (leading (left s at))
-  pub value : value_on 10 (m * 10 ^ z) (leading (left s i)) ≡ value_on 10 n (leading (left s at))
-  pub most : m ≤ most_whole
-  pub full : Full m z
-  pub few : z ≤ i
+  pub value : value_on 10 (p.m * 10 ^ p.z) (leading (left s i)) ≡ value_on 10 n (leading (left s at))
+  pub most : p.m ≤ most_whole
+  pub full : Full p
+  pub few : p.z ≤ i
 
 module _ (s : List ℕ) (at : ℕ) where
-  pub gather-start : (m z : ℕ) → m ≤ most_whole → Full m z → z ≤ at → Gathering s at (m * 10 ^ z) at m z
-  gather-start m z h f g = record { place = refl; value = refl; most = h; full = f; few = g }
+  pub gather-start : (p : Part) → p.m ≤ most_whole → Full p → p.z ≤ at → Gathering s at (p.m * 10 ^ p.z) at p
+  gather-start p h f g = record { place = refl; value = refl; most = h; full = f; few = g }
 
-  module _ (n i m z : ℕ) (q : Gathering s at n i m z) where
-    gather-ends : leading (left s i) ≡ [] → KeptDigits s at n i m z
+  module _ (n i : ℕ) (p : Part) (q : Gathering s at n i p) where
+    gather-ends : leading (left s i) ≡ [] → KeptDigits s at n (record { end = i; part = p })
     unfolding value_on
     gather-ends e =
         record {
@@ -104,26 +96,26 @@ module _ (s : List ℕ) (at : ℕ) where
           few = q.few;
         }
 
-    pub gather-end : length s ≤ i → KeptDigits s at n i m z
-    gather-end h = gather-ends (lead-end s i h)
+    pub gather-end : i ≤ length s → length s ≤ i → KeptDigits s at n (record { end = length s; part = p })
+    gather-end g h = let e : i ≡ length s = omega arith in rw (← e) (gather-ends (lead-end s i h))
 
     module _ (d : ℕ) (e : d ≡ digit_of (get_or s i 0)) (h : i < length s) where
-      pub gather-stop : 10 ≤ d → KeptDigits s at n i m z
+      pub gather-stop : 10 ≤ d → KeptDigits s at n (record { end = i; part = p })
       gather-stop l = gather-ends (lead-stop s i d e h l)
 
-      module _ (l : d < 10) (r : Part) (a : Adds (m * 10 ^ z * 10 + d) z r) where
-        onto : value_on 10 (m * 10 ^ z * 10 + d) (leading (left s (i + 1))) ≡ value_on 10 n (leading (left s at))
-        onto = sym (ap (value_on 10 (m * 10 ^ z)) (lead-on s i d e h l) ∙ value-more 10 (m * 10 ^ z) d (get_or s i 0) (leading (left s (i + 1))) e) ∙ q.value
+      module _ (l : d < 10) where
+        onto : value_on 10 (p.m * 10 ^ p.z * 10 + d) (leading (left s (i + 1))) ≡ value_on 10 n (leading (left s at))
+        onto = sym (ap (value_on 10 (p.m * 10 ^ p.z)) (lead-on s i d e h l) ∙ value-more 10 (p.m * 10 ^ p.z) d (get_or s i 0) (leading (left s (i + 1))) e) ∙ q.value
 
-        pub gather-over : most_whole < r.m → Wide (value_on 10 n (leading (left s at)))
-        gather-over g = subst Wide onto (wide-more (m * 10 ^ z * 10 + d) (leading (left s (i + 1))) (first-digits (left s (i + 1))) (a.over g))
+        pub gather-over : Wide (p.m * 10 ^ p.z * 10 + d) → Wide (value_on 10 n (leading (left s at)))
+        gather-over w = subst Wide onto (wide-more (p.m * 10 ^ p.z * 10 + d) (leading (left s (i + 1))) (first-digits (left s (i + 1))) w)
 
-        pub gather-on : r.m ≤ most_whole → Gathering s at n (i + 1) r.m r.z
-        gather-on g =
+        pub gather-on : (r : Part) → Kept (p.m * 10 ^ p.z * 10 + d) p.z r → Gathering s at n (i + 1) r
+        gather-on r a =
             record {
               place = omega (arith, q.place, ap length (lead-on s i d e h l));
-              value = ap (λ (x : ℕ). value_on 10 x (leading (left s (i + 1)))) (a.kept g) ∙ onto;
-              most = g;
+              value = ap (λ (x : ℕ). value_on 10 x (leading (left s (i + 1)))) a.same ∙ onto;
+              most = a.most;
               full = a.full;
               few = omega (arith, a.few, q.few);
             }

@@ -12,20 +12,19 @@ use lib.ListN.{length, drop, get_or, length-drop, drop_of_length-le}
 use lib.Seq.{drop-cons, drop-drop}
 use Rattle.number.specs.Answer.{Answer, refused}
 use Rattle.number.specs.Digits.{leading, trailing, value_on, all_digits}
-use Rattle.number.specs.Decimal.{Scaled, most_digits, most_after, most_whole, signs, minus, lowest, judged_decimal, pointed, signed_by}
+use Rattle.number.specs.Decimal.{Scaled, most_digits, most_after, signs, minus, lowest, judged_decimal, pointed, signed_by}
 use Rattle.number.specs.declared.exponent.Exponent.{Exponent}
-use Rattle.number.specs.declared.exponent.Exponent.TheVariants.{Nothing, By, Formless}
 use Rattle.number.proofs.Forms.{both-same, rest-drop, full, long, joined, some_first}
 use Rattle.number.proofs.Tens.{ten-sum}
-use Rattle.decimals.specs.Inner.{Wide, Full, KeptDigits, Gathers, moved_by, made_by, how_of}
+use Rattle.decimals.specs.Inner.{Wide, KeptDigits, moved_by, made_by, how_of}
 use Rattle.decimals.specs.declared.gather.Gathered.{Gathered}
-use Rattle.decimals.specs.declared.gather.Gathered.TheVariants.{Kept, Over}
+use Rattle.std.specs.Prelude.{Option, Some, None}
 use Rattle.decimals.proofs.GatherLaws.{wide-more}
 use Rattle.decimals.proofs.TenLaws.{wide-refused, wide-raised}
 
 -- what is made of the digits, by the exponent
-module _ (x : Exponent) (neg : Bool) (i f : ℕ) where
-  module _ (e : x ≡ Nothing) where
+module _ (x : Option Exponent) (neg : Bool) (i f : ℕ) where
+  module _ (e : x ≡ None) where
     pub made-many : (n : ℕ) → most_digits < i + f → refused 2 ≡ made_by x neg n i f
     unfolding made_by
     made-many n h = rw (e, lt-leb (i + f) most_digits h)
@@ -38,18 +37,14 @@ module _ (x : Exponent) (neg : Bool) (i f : ℕ) where
     unfolding made_by
     made_plain n r h g q = rw (e, le-leb (i + f) most_digits h, le-leb f most_after g) q
 
-  module _ (down : Bool) (by : ℕ) (e : x ≡ By down by) (r : Answer Scaled) where
-    pub made-down : (n : ℕ) → down ≡ true → r ≡ judged_decimal (lowest neg n (f + by)) → r ≡ made_by x neg n i f
+  module _ (y : Exponent) (e : x ≡ Some y) (r : Answer Scaled) where
+    pub made-down : (n : ℕ) → y.down ≡ true → r ≡ judged_decimal (lowest neg n (f + y.by)) → r ≡ made_by x neg n i f
     unfolding made_by moved_by
     made-down n h q = rw (e, h) q
 
-    pub made_up : (m z : ℕ) → down ≡ false → r ≡ judged_decimal (lowest neg (m * 10 ^ (z + by)) f) → r ≡ made_by x neg (m * 10 ^ z) i f
+    pub made_up : (m z : ℕ) → y.down ≡ false → r ≡ judged_decimal (lowest neg (m * 10 ^ (z + y.by)) f) → r ≡ made_by x neg (m * 10 ^ z) i f
     unfolding made_by moved_by
-    made_up m z h q = rw (e, h) (q ∙ ap (λ (n : ℕ). judged_decimal (lowest neg n f)) (ten-sum m z by))
-
-  pub made_none : (n : ℕ) → x ≡ Formless → refused 2 ≡ made_by x neg n i f
-  unfolding made_by
-  made_none n e = rw e
+    made_up m z h q = rw (e, h) (q ∙ ap (λ (n : ℕ). judged_decimal (lowest neg n f)) (ten-sum m z y.by))
 
   -- more than ten digits that count are refused by every exponent
   made_wide : (n : ℕ) → Wide n → refused 2 ≡ made_by x neg n i f
@@ -59,14 +54,13 @@ module _ (x : Exponent) (neg : Bool) (i f : ℕ) where
     moved-wide true by = wide-refused neg n (f + by) w
     moved-wide false by = wide-refused neg (n * 10 ^ by) f (wide-raised n by w)
 
-    by-case : (y : Exponent) → refused 2 ≡ made_by y neg n i f
-    by-case Nothing = both-same (leb (i + f) most_digits && leb f most_after) (judged_decimal (lowest neg n f)) (refused 2) (refused 2) (wide-refused neg n f w) refl
-    by-case (By down by) = moved-wide down by
-    by-case Formless = refl
+    by-case : (y : Option Exponent) → refused 2 ≡ made_by y neg n i f
+    by-case None = both-same (leb (i + f) most_digits && leb f most_after) (judged_decimal (lowest neg n f)) (refused 2) (refused 2) (wide-refused neg n f w) refl
+    by-case (Some y) = moved-wide y.down y.by
 
-pub ruleset makes = (made-many, made-past, made_plain, made-down, made_up, made_none, rules)
+pub ruleset makes = (made-many, made-past, made_plain, made-down, made_up, rules)
 
-module _ (x : Exponent) (neg : Bool) (i : List ℕ) where
+module _ (x : Option Exponent) (neg : Bool) (i : List ℕ) where
   how-wide : (f : List ℕ) → Wide (value_on 10 0 (i ++ f)) → refused 2 ≡ how_of x neg i f
   unfolding how_of
   how-wide f w =
@@ -98,45 +92,39 @@ module _ (x : Exponent) (neg : Bool) (i : List ℕ) where
   pointed-none (b ∷ f) h = both-same (eqb b 46 && all_digits 10 f && leb 1 (length f)) (how_of x neg i f) (refused 2) (refused 2) (how-none f h) refl
 
 -- what `gather` says
-module _ (s : List ℕ) (at n : ℕ) (g : Gathered) (e m z : ℕ) (r : g ≡ Kept e m z) (q : Gathers s at n g) where
-  kept : KeptDigits s at n e m z
-  kept = subst (λ (x : Gathered). Gathers s at n x) r q
+module _ (s : List ℕ) (at n : ℕ) (g : Gathered) (k : KeptDigits s at n g) where
+  pub kept-few : g.part.z ≤ g.end + 1
+  kept-few = omega (arith, k.few)
 
-  pub kept-most : m ≤ most_whole
-  kept-most = kept.most
+  pub kept-later : at ≤ g.end
+  kept-later = omega (arith, k.place)
 
-  pub kept_full : Full m z
-  kept_full = kept.full
+  kept-end : at ≤ length s → g.end ≤ length s
+  kept-end h = omega (arith, k.place, some_first (drop at s), length-drop at s)
 
-  pub kept-few : z ≤ e + 1
-  kept-few = omega (arith, kept.few)
+  pub kept_small : at ≤ length s → length s * 1 < 2 ^ 63 → g.part.z < 9223372036854775808
+  kept_small h l = omega (arith, k.few, kept-end h)
 
-  pub kept-later : at ≤ e
-  kept-later = omega (arith, kept.place)
-
-  kept-end : at ≤ length s → e ≤ length s
-  kept-end h = omega (arith, kept.place, some_first (drop at s), length-drop at s)
-
-  pub kept_small : at ≤ length s → length s * 1 < 2 ^ 63 → z < 9223372036854775808
-  kept_small h l = omega (arith, kept.few, kept-end h)
-
-  pub after_small : (b : ℕ) → at ≤ length s → length s * 1 < 2 ^ 63 → e - b < 9223372036854775808
+  pub after_small : (b : ℕ) → at ≤ length s → length s * 1 < 2 ^ 63 → g.end - b < 9223372036854775808
   after_small b h l = omega (arith, kept-end h)
 
 pub next-few : (s : List ℕ) (e : ℕ) → e < length s → e + 1 ≤ length s
 next-few s e h = omega arith
 
-module _ (s : List ℕ) (x : Exponent) (a : ℕ) (neg : Bool) (ea : a ≡ signs s) (en : neg ≡ minus s) (g : Gathered) (q : Gathers s a 0 g) where
+module _ (s : List ℕ) (x : Option Exponent) (a : ℕ) (neg : Bool) (ea : a ≡ signs s) (en : neg ≡ minus s) where
   signed_is : pointed (how_of x neg) (leading (drop a s)) (trailing (drop a s)) ≡ signed_by (how_of x) s
   unfolding signed_by
   signed_is = rw (en, ea)
 
-  pub run-over : g ≡ Over → refused 2 ≡ signed_by (how_of x) s
-  run-over r = pointed-wide x neg (leading (drop a s)) (trailing (drop a s)) (subst (λ (y : Gathered). Gathers s a 0 y) r q) ∙ signed_is
+  pub run-over : Wide (value_on 10 0 (leading (drop a s))) → refused 2 ≡ signed_by (how_of x) s
+  run-over w = pointed-wide x neg (leading (drop a s)) (trailing (drop a s)) w ∙ signed_is
 
-  module _ (e m z : ℕ) (r : g ≡ Kept e m z) where
-    k : KeptDigits s a 0 e m z
-    k = subst (λ (y : Gathered). Gathers s a 0 y) r q
+  module _ (g : Gathered) (k : KeptDigits s a 0 g) where
+    abbrev e : ℕ
+    e = g.end
+
+    abbrev first : ℕ
+    first = g.part.m * 10 ^ g.part.z
 
     pub run_none : e ≤ a → refused 2 ≡ signed_by (how_of x) s
     run_none h = pointed-none x neg (leading (drop a s)) (trailing (drop a s)) (omega (arith, k.place)) ∙ signed_is
@@ -144,15 +132,15 @@ module _ (s : List ℕ) (x : Exponent) (a : ℕ) (neg : Bool) (ea : a ≡ signs 
     rest : trailing (drop a s) ≡ drop e s
     rest = rest-drop (drop a s) ∙ drop-drop (length (leading (drop a s))) a s ∙ ap (λ (n : ℕ). drop n s) (sym k.place)
 
-    pub run_end_lem : (y : Answer Scaled) → a < e → length s ≤ e → y ≡ made_by x neg (m * 10 ^ z) (e - a) 0 → y ≡ signed_by (how_of x) s
+    pub run_end_lem : (y : Answer Scaled) → a < e → length s ≤ e → y ≡ made_by x neg first (e - a) 0 → y ≡ signed_by (how_of x) s
     unfolding pointed
     run_end_lem y h l j =
         let i = leading (drop a s) in
         let p : trailing (drop a s) ≡ [] = rest ∙ drop_of_length-le s l in
         let c : 0 < length i = omega (arith, k.place) in
         let d : e - a ≡ length i = omega (arith, k.place) in
-        j ∙ ap (λ (n : ℕ). made_by x neg (m * 10 ^ z) n 0) d
-        ∙ how-good x neg i [] (m * 10 ^ z) c (k.value ∙ ap (value_on 10 0) (sym (append-nil i)))
+        j ∙ ap (λ (n : ℕ). made_by x neg first n 0) d
+        ∙ how-good x neg i [] first c (k.value ∙ ap (value_on 10 0) (sym (append-nil i)))
         ∙ sym (ap (pointed (how_of x neg) i) p) ∙ signed_is
 
     module _ (h : e < length s) where
@@ -172,55 +160,52 @@ module _ (s : List ℕ) (x : Exponent) (a : ℕ) (neg : Bool) (ea : a ≡ signs 
         size : length (drop (e + 1) s) ≡ length s - (e + 1)
         size = length-drop (e + 1) s
 
-        module _ (g2 : Gathered) (q2 : Gathers s (e + 1) (m * 10 ^ z) g2) where
-          whole : (f : List ℕ) → leading (drop (e + 1) s) ≡ f → value_on 10 (m * 10 ^ z) (leading (drop (e + 1) s)) ≡ value_on 10 0 (leading (drop a s) ++ f)
-          whole f o = ap (value_on 10 (m * 10 ^ z)) o ∙ ap (λ (n : ℕ). value_on 10 n f) k.value ∙ joined 0 (leading (drop a s)) f
+        whole : (f : List ℕ) → leading (drop (e + 1) s) ≡ f → value_on 10 first (leading (drop (e + 1) s)) ≡ value_on 10 0 (leading (drop a s) ++ f)
+        whole f o = ap (value_on 10 first) o ∙ ap (λ (n : ℕ). value_on 10 n f) k.value ∙ joined 0 (leading (drop a s)) f
 
-          over-turn : (t : Bool) → all_digits 10 (drop (e + 1) s) ≡ t → g2 ≡ Over → refused 2 ≡ signed_by (how_of x) s
-          over-turn true o r2 =
-              let f = drop (e + 1) s in
-              both-same (leb 1 (length f)) (how_of x neg (leading (drop a s)) f) (refused 2) (refused 2)
-              (how-wide x neg (leading (drop a s)) f (subst Wide (whole f (full f o)) (subst (λ (y : Gathered). Gathers s (e + 1) (m * 10 ^ z) y) r2 q2))) refl
-              ∙ after true o
-          over-turn false o r2 = after false o
+        over-turn : (t : Bool) → all_digits 10 (drop (e + 1) s) ≡ t → Wide (value_on 10 first (leading (drop (e + 1) s))) → refused 2 ≡ signed_by (how_of x) s
+        over-turn true o w =
+            let f = drop (e + 1) s in
+            both-same (leb 1 (length f)) (how_of x neg (leading (drop a s)) f) (refused 2) (refused 2)
+            (how-wide x neg (leading (drop a s)) f (subst Wide (whole f (full f o)) w)) refl
+            ∙ after true o
+        over-turn false o w = after false o
 
-          pub two-over : g2 ≡ Over → refused 2 ≡ signed_by (how_of x) s
-          two-over r2 = over-turn (all_digits 10 (drop (e + 1) s)) refl r2
+        pub two-over : Wide (value_on 10 first (leading (drop (e + 1) s))) → refused 2 ≡ signed_by (how_of x) s
+        two-over w = over-turn (all_digits 10 (drop (e + 1) s)) refl w
 
-          module _ (e2 n y : ℕ) (r2 : g2 ≡ Kept e2 n y) where
-            v : KeptDigits s (e + 1) (m * 10 ^ z) e2 n y
-            v = subst (λ (w : Gathered). Gathers s (e + 1) (m * 10 ^ z) w) r2 q2
+        module _ (g2 : Gathered) (v : KeptDigits s (e + 1) first g2) where
+          abbrev e2 : ℕ
+          e2 = g2.end
 
-            past-turn : (t : Bool) → all_digits 10 (drop (e + 1) s) ≡ t → e2 < length s → refused 2 ≡ signed_by (how_of x) s
-            past-turn true o l = absurd (omega (arith, v.place, ap length (full (drop (e + 1) s) o), size))
-            past-turn false o l = after false o
+          past-turn : (t : Bool) → all_digits 10 (drop (e + 1) s) ≡ t → e2 < length s → refused 2 ≡ signed_by (how_of x) s
+          past-turn true o l = absurd (omega (arith, v.place, ap length (full (drop (e + 1) s) o), size))
+          past-turn false o l = after false o
 
-            pub two_past : e2 < length s → refused 2 ≡ signed_by (how_of x) s
-            two_past l = past-turn (all_digits 10 (drop (e + 1) s)) refl l
+          pub two_past : e2 < length s → refused 2 ≡ signed_by (how_of x) s
+          two_past l = past-turn (all_digits 10 (drop (e + 1) s)) refl l
 
-            module _ (l : length s ≤ e2) where
-              all : all_digits 10 (drop (e + 1) s) ≡ true
-              all = long (drop (e + 1) s) (omega (arith, v.place, size))
+          module _ (l : length s ≤ e2) where
+            all : all_digits 10 (drop (e + 1) s) ≡ true
+            all = long (drop (e + 1) s) (omega (arith, v.place, size))
 
-              same : leading (drop (e + 1) s) ≡ drop (e + 1) s
-              same = full (drop (e + 1) s) all
+            same : leading (drop (e + 1) s) ≡ drop (e + 1) s
+            same = full (drop (e + 1) s) all
 
-              count : e2 ≡ e + 1 + length (drop (e + 1) s)
-              count = omega (arith, v.place, ap length same)
+            count : e2 ≡ e + 1 + length (drop (e + 1) s)
+            count = omega (arith, v.place, ap length same)
 
-              pub two_none : e2 - (e + 1) ≡ 0 → refused 2 ≡ signed_by (how_of x) s
-              two_none u = let c : length (drop (e + 1) s) ≡ 0 = omega (arith, count) in rw c at (after true all)
+            pub two_none : e2 - (e + 1) ≡ 0 → refused 2 ≡ signed_by (how_of x) s
+            two_none u = let c : length (drop (e + 1) s) ≡ 0 = omega (arith, count) in rw c at (after true all)
 
-              pub two-end : (w : Answer Scaled) → a < e → (e2 - (e + 1) ≡ 0 → ⊥) → w ≡ made_by x neg (n * 10 ^ y) (e - a) (e2 - (e + 1)) → w ≡ signed_by (how_of x) s
-              two-end w c u j =
-                  let f = drop (e + 1) s in
-                  let i = leading (drop a s) in
-                  let d : e2 - (e + 1) ≡ length f = omega (arith, count) in
-                  let b' : e - a ≡ length i = omega (arith, k.place) in
-                  let p : 0 < length i = omega (arith, k.place) in
-                  let o : leb 1 (length f) ≡ true = le-leb 1 (length f) (omega (arith, count)) in
-                  j ∙ ap (made_by x neg (n * 10 ^ y) (e - a)) d ∙ ap (λ (c : ℕ). made_by x neg (n * 10 ^ y) c (length f)) b'
-                  ∙ how-good x neg i f (n * 10 ^ y) p (v.value ∙ whole f same)
-                  ∙ sym (ap (λ (t : Bool). cond t (how_of x neg i f) (refused 2)) o) ∙ after true all
-
-pub ruleset mantissas = (after_small, next-few, kept-most, kept_full, kept-few, kept-later, kept_small, run-over, run_none, run_end_lem, run-other, two-over, two_past, two_none, two-end, rules)
+            pub two-end : (w : Answer Scaled) → a < e → (e2 - (e + 1) ≡ 0 → ⊥) → w ≡ made_by x neg (g2.part.m * 10 ^ g2.part.z) (e - a) (e2 - (e + 1)) → w ≡ signed_by (how_of x) s
+            two-end w c u j =
+                let f = drop (e + 1) s in
+                let i = leading (drop a s) in
+                let d : e2 - (e + 1) ≡ length f = omega (arith, count) in
+                let b' : e - a ≡ length i = omega (arith, k.place) in
+                let p : 0 < length i = omega (arith, k.place) in
+                let o : leb 1 (length f) ≡ true = le-leb 1 (length f) (omega (arith, count)) in
+                j ∙ ap (made_by x neg (g2.part.m * 10 ^ g2.part.z) (e - a)) d ∙ ap (λ (c : ℕ). made_by x neg (g2.part.m * 10 ^ g2.part.z) c (length f)) b'
+                ∙ how-good x neg i f (g2.part.m * 10 ^ g2.part.z) p (v.value ∙ whole f same)
+                ∙ sym (ap (λ (t : Bool). cond t (how_of x neg i f) (refused 2)) o) ∙ after true all

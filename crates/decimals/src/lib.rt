@@ -3,13 +3,13 @@
 
 ghost use Rattle.std.specs.Prelude.{◌≡◌, length, drop};
 ghost use Rattle.number.specs.Answer.{in_run};
-ghost use Rattle.number.specs.Told.{told_decimal, BelowHundred};
+ghost use Rattle.number.specs.Told.{told_decimal};
 ghost use Rattle.number.specs.Decimal.{mantissa, decimal_of};
 ghost use Rattle.decimals.specs.Inner.{exponent_after};
 
 use crate::mantissa::mantissa_of;
-use number::decimal::DecimalAnswer;
-use number::digits::NO_FORM;
+use number::decimal::Decimal;
+use number::digits::NoForm;
 use number::exponent::{Exponent, exponent_of};
 
 mod gather;
@@ -38,36 +38,29 @@ fn e_place(s: &[u8]) -> usize
 }
 
 // The exponent behind the E at a place, or none at the end.
-fn exponent_from(s: &[u8], e: usize) -> Exponent
-    ensures { (result ≡ exponent_after (drop e s.now)) × BelowHundred result }
+fn exponent_from(s: &[u8], e: usize) -> Result<Option<Exponent>, NoForm>
+    ensures { result ≡ exponent_after (drop e s.now) }
 {
     if s.len() <= e {
-        return Exponent::Nothing;
+        return Ok(None);
     }
-    let from = e + 1;
-    let to = s.len();
-    exponent_of(&s[from..to])
+    let x = exponent_of(&s[e + 1..])?;
+    Ok(Some(x))
 }
 
 // The decimal number that a run writes.
-pub fn decimal_of(s: &[u8]) -> DecimalAnswer
+pub fn decimal_of(s: &[u8]) -> Result<Decimal, NoForm>
     ensures { told_decimal result ≡ decimal_of s.now }
 {
     let e = e_place(s);
-    let x = exponent_from(s, e);
-    let start = 0;
-    mantissa_of(&s[start..e], x)
+    let x = exponent_from(s, e)?;
+    mantissa_of(&s[..e], x)
 }
 
 // The decimal number that the run between two places writes.
-pub fn decimal_in(s: &[u8], from: usize, to: usize) -> DecimalAnswer
+pub fn decimal_in(s: &[u8], from: usize, to: usize) -> Result<Decimal, NoForm>
     ensures { told_decimal result ≡ in_run decimal_of s.now from to }
 {
-    if to < from {
-        return DecimalAnswer::Refused { no: NO_FORM };
-    }
-    if s.len() < to {
-        return DecimalAnswer::Refused { no: NO_FORM };
-    }
-    decimal_of(&s[from..to])
+    let run = s.get(from..to).ok_or(NoForm)?;
+    decimal_of(run)
 }

@@ -4,12 +4,13 @@ ghost use Rattle.number.specs.Decimal.{most_whole, lowest, judged_decimal};
 ghost use Rattle.number.specs.Told.{told_decimal};
 ghost use Rattle.decimals.specs.Inner.{capped};
 
-use number::decimal::{DecimalAnswer, lowered};
+use number::decimal::{Decimal, lowered};
+use number::digits::NoForm;
 
 // The greatest number of nine digits: one digit more makes ten.
 pub const MOST_NINE: u64 = 999999999;
 // What stands for every number of more than ten digits.
-pub const TOO_WIDE: u64 = 10000000000;
+const TOO_WIDE: u64 = 10000000000;
 
 // m times 10^p, or 10^10 where it has more than ten digits.
 fn raised(m: u64, p: usize) -> u64
@@ -29,7 +30,7 @@ fn raised(m: u64, p: usize) -> u64
 }
 
 // The number m times 10^p over 10^t, where it has ten digits at most and six after the point.
-pub fn settled(negative: bool, m: u64, p: usize, t: usize) -> DecimalAnswer
+pub fn settled(negative: bool, m: u64, p: usize, t: usize) -> Result<Decimal, NoForm>
     requires { m ≤ most_whole }
     ensures { told_decimal result ≡ judged_decimal (lowest negative (m * 10 ^ p) t) }
 {

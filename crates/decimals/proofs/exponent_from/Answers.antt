@@ -1,24 +1,14 @@
 -- `exponent_from` meets its contract.
-use Rattle.decimals.proofs.RunLaws.{froms}
+use Rattle.std.proofs.Common.{◌∙◌}
+use Rattle.number.proofs.ExponentLaws.{handed}
+use Rattle.decimals.proofs.RunLaws.{from-none, from_some, from-err}
 use Rattle.decimals.proofs.exponent_from.Goals as goal
 
 pub returns-then-s-e : goal.returns-then-s-e
-returns-then-s-e c = search froms
+returns-then-s-e c = from-none _ _ c.if-s-e.true
 
-pub overflow_add-from : goal.overflow_add-from
-overflow_add-from c = search froms
-
-pub slice_bounds-exponent_of-count : goal.slice_bounds-exponent_of-count
-slice_bounds-exponent_of-count c = search froms
-
-pub slice_bounds-exponent_of-start : goal.slice_bounds-exponent_of-start
-slice_bounds-exponent_of-start c = search froms
-
-pub slice_bounds-exponent_of-end : goal.slice_bounds-exponent_of-end
-slice_bounds-exponent_of-end c = search froms
-
-pub exponent_of-requires : goal.exponent_of-requires
-exponent_of-requires c = search froms
+pub returns-in_err-x : goal.returns-in_err-x
+returns-in_err-x c = handed _ c.from_residual.ensures.0 ∙ from-err _ _ c.if-s-e.false _ c.exponent_of.ensures.0 _ c.in_err-x.was
 
 pub returns : goal.returns
-returns c = search froms
+returns c = from_some _ _ c.if-s-e.false _ c.exponent_of.ensures.0 _ c.in_ok-x.was

@@ -1,78 +1,52 @@
 -- `mantissa_of` meets its contract.
-use native.Mathlib.Omega.{arith}
-use Rattle.decimals.proofs.MantissaLaws.{mantissas}
+use Rattle.std.proofs.Common.{arith}
+use Rattle.number.proofs.ExponentLaws.{handed}
+use Rattle.decimals.proofs.MantissaLaws.{kept_small, after_small, next-few, run-over, run_none, run_end_lem, run-other, two-over, two_past, two_none, two-end}
 use Rattle.decimals.proofs.mantissa.mantissa_of.Goals as goal
 
-pub is_minus-negative-requires : goal.is_minus-negative-requires
-is_minus-negative-requires c = search mantissas
-
-pub sign_len-a-requires : goal.sign_len-a-requires
-sign_len-a-requires c = search mantissas
-
-pub gather-requires : goal.gather-requires
-gather-requires c = search mantissas
-
-pub enum_known-end : goal.enum_known-end
-enum_known-end c = search mantissas
-
-pub enum_told-1 : goal.enum_told-1
-enum_told-1 c = search mantissas
-
-pub returns-in_default : goal.returns-in_default
-returns-in_default c = search mantissas
+pub returns-in_err-first : goal.returns-in_err-first
+returns-in_err-first c = rw (handed _ c.from_residual.ensures.0) (run-over _ _ _ _ c.sign_len-a.ensures.0 c.is_minus-negative.ensures c.in_err-first.ensures)
 
 pub returns-then-end-a : goal.returns-then-end-a
-returns-then-end-a c = search mantissas
-
-pub overflow_sub-end : goal.overflow_sub-end
-overflow_sub-end c = search mantissas
+returns-then-end-a c = run_none _ _ _ _ c.sign_len-a.ensures.0 c.is_minus-negative.ensures _ c.in_ok-first.ensures c.if-end-a.true
 
 pub made_of-requires : goal.made_of-requires
-made_of-requires c = search mantissas
+made_of-requires c =
+    let start = c in (
+      c.in_ok-first.ensures.most,
+      kept_small _ _ _ _ c.in_ok-first.ensures c.sign_len-a.ensures.1 start.well_formed.0.1,
+      after_small _ _ _ _ c.in_ok-first.ensures _ c.sign_len-a.ensures.1 start.well_formed.0.1,
+      omega arith,
+    )
 
 pub returns-then-s-end : goal.returns-then-s-end
-returns-then-s-end c = search mantissas
+returns-then-s-end c = run_end_lem _ _ _ _ c.sign_len-a.ensures.0 c.is_minus-negative.ensures _ c.in_ok-first.ensures _ c.if-end-a.false c.if-s-end.true c.made_of.ensures
 
-pub bounds-s-end : goal.bounds-s-end
-bounds-s-end c = search mantissas
+pub returns-then-s-end-ne46 : goal.returns-then-s-end-ne46
+returns-then-s-end-ne46 c = run-other _ _ _ _ c.sign_len-a.ensures.0 c.is_minus-negative.ensures _ c.in_ok-first.ensures c.if-s-end.false c.if-s-end-ne46.true
 
-pub returns-then-s-end-ne-POINT : goal.returns-then-s-end-ne-POINT
-returns-then-s-end-ne-POINT c = search mantissas
+pub returns-in_err-second : goal.returns-in_err-second
+returns-in_err-second c =
+    rw (handed _ c.from_residual-in_err-second.ensures.0) (two-over _ _ _ _ c.sign_len-a.ensures.0 c.is_minus-negative.ensures _ c.in_ok-first.ensures c.if-s-end.false c.if-s-end-ne46.false c.in_err-second.ensures)
 
-pub overflow_add-end : goal.overflow_add-end
-overflow_add-end c = search mantissas
-
-pub gather-second-requires : goal.gather-second-requires
-gather-second-requires c = search mantissas
-
-pub enum_known-second : goal.enum_known-second
-enum_known-second c = search mantissas
-
-pub enum_told-in_default-second : goal.enum_told-in_default-second
-enum_told-in_default-second c = search mantissas
-
-pub returns-in_default-second : goal.returns-in_default-second
-returns-in_default-second c = search mantissas
-
-pub returns-then-last-s : goal.returns-then-last-s
-returns-then-last-s c = search mantissas
-
-pub overflow_add-f : goal.overflow_add-f
-overflow_add-f c = search mantissas
-
-pub overflow_sub-f : goal.overflow_sub-f
-overflow_sub-f c = search mantissas
+pub returns-then-second-s : goal.returns-then-second-s
+returns-then-second-s c = two_past _ _ _ _ c.sign_len-a.ensures.0 c.is_minus-negative.ensures _ c.in_ok-first.ensures c.if-s-end.false c.if-s-end-ne46.false _ c.in_ok-second.ensures c.if-second-s.true
 
 pub returns-then-f-eq0 : goal.returns-then-f-eq0
-returns-then-f-eq0 c = search mantissas
-
-pub overflow_sub-end-2 : goal.overflow_sub-end-2
-overflow_sub-end-2 c = search mantissas
+returns-then-f-eq0 c =
+    two_none _ _ _ _ c.sign_len-a.ensures.0 c.is_minus-negative.ensures _ c.in_ok-first.ensures c.if-s-end.false c.if-s-end-ne46.false _ c.in_ok-second.ensures c.if-second-s.false c.if-f-eq0.true
 
 pub made_of-requires-2 : goal.made_of-requires-2
 made_of-requires-2 c =
     let start = c in
-    (search mantissas, search (mantissas, start.well_formed.0.1), omega (arith, start.well_formed.0.1, c.if-s-end.false), search (mantissas, start.well_formed.0.1), start.requires)
+    let few = next-few _ _ c.if-s-end.false in (
+      c.in_ok-second.ensures.most,
+      kept_small _ _ _ _ c.in_ok-second.ensures few start.well_formed.0.1,
+      after_small _ _ _ _ c.in_ok-first.ensures _ c.sign_len-a.ensures.1 start.well_formed.0.1,
+      after_small _ _ _ _ c.in_ok-second.ensures _ few start.well_formed.0.1,
+    )
 
 pub returns : goal.returns
-returns c = search mantissas
+returns c =
+    two-end _ _ _ _ c.sign_len-a.ensures.0 c.is_minus-negative.ensures _ c.in_ok-first.ensures c.if-s-end.false c.if-s-end-ne46.false _ c.in_ok-second.ensures c.if-second-s.false _ c.if-end-a.false c.if-f-eq0.false
+    c.made_of-2.ensures

@@ -1,78 +1,56 @@
 // Whole numbers without a sign: decimal, or `0x` with 1 to 8 hex digits.
-ghost use Rattle.std.specs.Prelude.{◌≡◌, ◌≤◌, ◌<◌, drop};
+ghost use Rattle.std.specs.Prelude.{◌≡◌, ◌≤◌, ◌<◌};
 ghost use Rattle.number.specs.Answer.{in_run};
 ghost use Rattle.number.specs.Told.{told_whole};
 ghost use Rattle.number.specs.Whole.{whole_from, whole_of};
 
-use number::digits::{NO_FORM, digit_of};
-use number::whole::WholeAnswer;
+use number::digits::{NoForm, digit_of};
 
-// `0x`, how many bytes it has, and the most bytes it has with its digits.
-const ZERO: u8 = 48;
+// The most hex digits.
+const MOST_HEX: usize = 8;
 
-const LOWER_X: u8 = 120;
-
-const HEX_FIRST: usize = 2;
-
-const HEX_MOST: usize = 10;
-
-// The whole number that the digits of a base from a place to the end write, at most most.
-fn whole_from(s: &[u8], at: usize, base: u8, most: u64) -> WholeAnswer
+// The whole number that digits of a base write, at most most.
+fn whole_from(s: &[u8], base: u8, most: u64) -> Result<u64, NoForm>
     requires { (0 < base) × (base ≤ 16) }
-    ensures { told_whole result ≡ whole_from base most (drop at s.now) }
+    ensures { told_whole result ≡ whole_from base most s.now }
 {
-    if s.len() <= at {
-        return WholeAnswer::Refused { no: NO_FORM };
+    if s.is_empty() {
+        return Err(NoForm);
     }
-    let b = base as u64;
-    let mut i = at;
     let mut n: u64 = 0;
-    while i < s.len() {
-        let d = digit_of(s[i]);
+    for &b in s {
+        let d = digit_of(b);
         if base <= d {
-            return WholeAnswer::Refused { no: NO_FORM };
+            return Err(NoForm);
         }
-        let w = d as u64;
-        if most < w {
-            return WholeAnswer::Refused { no: NO_FORM };
+        let tens = n.checked_mul(base as u64).ok_or(NoForm)?;
+        n = tens.checked_add(d as u64).ok_or(NoForm)?;
+        if most < n {
+            return Err(NoForm);
         }
-        if (most - w) / b < n {
-            return WholeAnswer::Refused { no: NO_FORM };
-        }
-        n = n * b + w;
-        i += 1;
     }
-    WholeAnswer::Number(n)
+    Ok(n)
 }
 
 // The whole number that a run writes, at most most.
-pub fn whole_of(s: &[u8], most: u64) -> WholeAnswer
+pub fn whole_of(s: &[u8], most: u64) -> Result<u64, NoForm>
     ensures { told_whole result ≡ whole_of most s.now }
 {
-    if s.len() < HEX_FIRST {
-        return whole_from(s, 0, 10, most);
+    match s {
+        [b'0', b'x', digits @ ..] => {
+            if MOST_HEX < digits.len() {
+                return Err(NoForm);
+            }
+            whole_from(digits, 16, most)
+        }
+        _ => whole_from(s, 10, most),
     }
-    if s[0] != ZERO {
-        return whole_from(s, 0, 10, most);
-    }
-    if s[1] != LOWER_X {
-        return whole_from(s, 0, 10, most);
-    }
-    if HEX_MOST < s.len() {
-        return WholeAnswer::Refused { no: NO_FORM };
-    }
-    whole_from(s, HEX_FIRST, 16, most)
 }
 
 // The whole number that the run between two places writes, at most most.
-pub fn whole_in(s: &[u8], from: usize, to: usize, most: u64) -> WholeAnswer
+pub fn whole_in(s: &[u8], from: usize, to: usize, most: u64) -> Result<u64, NoForm>
     ensures { told_whole result ≡ in_run (whole_of most) s.now from to }
 {
-    if to < from {
-        return WholeAnswer::Refused { no: NO_FORM };
-    }
-    if s.len() < to {
-        return WholeAnswer::Refused { no: NO_FORM };
-    }
-    whole_of(&s[from..to], most)
+    let run = s.get(from..to).ok_or(NoForm)?;
+    whole_of(run, most)
 }

@@ -1,20 +1,9 @@
-use Rattle.number.proofs.FormLaws.{run-forms}
+-- `has_form` meets its contract.
+use Rattle.number.proofs.FormLaws.{form-none, form-run}
 use Rattle.runs.proofs.form.has_form.Goals as goal
 
-pub returns-then-to-from : goal.returns-then-to-from
-returns-then-to-from c = search run-forms
+pub returns-in-Some : goal.returns-in-Some
+returns-in-Some c = let found = c.in-Some.ensures.lookup.0 in form-run _ _ _ _ _ found.0 found.1 found.2 c.is_formed.ensures
 
-pub returns-then-s-to : goal.returns-then-s-to
-returns-then-s-to c = search run-forms
-
-pub slice_bounds-is_formed-start : goal.slice_bounds-is_formed-start
-slice_bounds-is_formed-start c = search run-forms
-
-pub slice_bounds-is_formed-end : goal.slice_bounds-is_formed-end
-slice_bounds-is_formed-end c = search run-forms
-
-pub is_formed-requires : goal.is_formed-requires
-is_formed-requires c = search run-forms
-
-pub returns : goal.returns
-returns c = search run-forms
+pub returns-in-None : goal.returns-in-None
+returns-in-None c = form-none _ _ _ c.in-None.ensures.lookup.0

@@ -1,32 +1,21 @@
-use Rattle.number.proofs.FormLaws.{forms}
+-- `is_formed` meets its contract.
+use Rattle.std.proofs.Common.{◌≡◌, true, false, ◌∙◌, sym}
+use Rattle.number.proofs.FormLaws.{form-decimal, form-whole, form-digits}
+use Rattle.runs.proofs.form.is_formed.Goals.{then-is_ok, else-is_ok}
 use Rattle.runs.proofs.form.is_formed.Goals as goal
 
-pub decimal_of-requires : goal.decimal_of-requires
-decimal_of-requires c = search forms
+pub returns-then-is_ok-2 : goal.returns-then-is_ok-2
+returns-then-is_ok-2 c = elim c.if-is_ok.branch [
+  | then-is_ok w ↦ c.if-is_ok-2.true ∙ form-decimal _ _ c.decimal_of.ensures (sym w.if-is_ok.ensures.value)
+  | else-is_ok w ↦
+      c.if-is_ok-2.true
+      ∙ form-whole _ _ c.decimal_of.ensures (sym w.if-is_ok.ensures.value) _ w.whole_of.ensures (sym w.is_ok-else-is_ok.ensures.value ∙ sym w.value-is ∙ c.if-is_ok-2.true)
+]
 
-pub enum_told-1 : goal.enum_told-1
-enum_told-1 c = search forms
-
-pub enum_told-in_default : goal.enum_told-in_default
-enum_told-in_default c = search forms
-
-pub returns-in_default : goal.returns-in_default
-returns-in_default c = search forms
-
-pub whole_of-requires : goal.whole_of-requires
-whole_of-requires c = search forms
-
-pub enum_told-in-Refused-whole_of : goal.enum_told-in-Refused-whole_of
-enum_told-in-Refused-whole_of c = search forms
-
-pub enum_told-in_default-whole_of : goal.enum_told-in_default-whole_of
-enum_told-in_default-whole_of c = search forms
-
-pub returns-in_default-whole_of : goal.returns-in_default-whole_of
-returns-in_default-whole_of c = search forms
-
-pub is_digits-requires : goal.is_digits-requires
-is_digits-requires c = search forms
-
-pub returns : goal.returns
-returns c = search forms
+pub returns-else-is_ok-2 : goal.returns-else-is_ok-2
+returns-else-is_ok-2 c = elim c.if-is_ok.branch [
+  | then-is_ok w ↦ let z : true ≡ false = sym w.if-is_ok.true ∙ sym w.value-is ∙ c.if-is_ok-2.false in absurd cc
+  | else-is_ok w ↦
+      form-digits _ _ c.decimal_of.ensures (sym w.if-is_ok.ensures.value) _ w.whole_of.ensures _ (sym w.is_ok-else-is_ok.ensures.value ∙ sym w.value-is ∙ c.if-is_ok-2.false)
+      c.is_digits.ensures
+]

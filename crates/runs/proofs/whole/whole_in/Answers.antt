@@ -1,21 +1,12 @@
 -- `whole_in` meets its contract.
-use Rattle.number.proofs.Bytes.{run-places}
+use Rattle.number.proofs.Bytes.{run-none, run_is}
+use Rattle.number.proofs.ExponentLaws.{handed}
 use Rattle.runs.proofs.whole.whole_in.Goals as goal
 
-pub returns-then-to-from : goal.returns-then-to-from
-returns-then-to-from c = search run-places
-
-pub returns-then-s-to : goal.returns-then-s-to
-returns-then-s-to c = search run-places
-
-pub slice_bounds-whole_of-start : goal.slice_bounds-whole_of-start
-slice_bounds-whole_of-start c = search run-places
-
-pub slice_bounds-whole_of-end : goal.slice_bounds-whole_of-end
-slice_bounds-whole_of-end c = search run-places
-
-pub whole_of-requires : goal.whole_of-requires
-whole_of-requires c = search run-places
+pub returns-in_err-run : goal.returns-in_err-run
+returns-in_err-run c = rw (handed _ c.from_residual.ensures.0) (run-none _ _ _ _ (rw c.in_err-run.ensures.ok_part at c.get.ensures.lookup.0))
 
 pub returns : goal.returns
-returns c = search run-places
+returns c =
+    let found = rw c.in_ok-run.ensures.ok_part at c.get.ensures.lookup.0 in
+    run_is _ _ _ _ _ _ found.0 found.1 found.2 c.whole_of.ensures

@@ -1,6 +1,6 @@
 -- A physical write, each way through its judgements: the code's branches as laws, which `search askeds` applies.
 use mathlib.Core.Path.{◌≡◌, sym, ap, ap₂, ◌∙◌}
-use mathlib.Core.Bool.{Bool, true, false, ◌&&◌}
+use mathlib.Core.Bool.{Bool, true, false, cond, ◌&&◌}
 use mathlib.Core.List.{List}
 use Prim.Native.Nat.{ℕ, ◌+◌, ◌*◌, ◌^◌, ◌≤◌, ◌<◌}
 use native.Mathlib.Omega.{arith}
@@ -14,15 +14,14 @@ use Rattle.number.specs.Answer.{Answer, given, refused}
 use Rattle.number.specs.Decimal.{Scaled, decimal_of}
 use Rattle.number.specs.Told.{scaled, told_decimal}
 use Rattle.number.specs.declared.decimal.Decimal.{Decimal}
-use Rattle.number.specs.declared.decimal.DecimalAnswer.{DecimalAnswer}
-use Rattle.number.specs.declared.decimal.DecimalAnswer.TheVariants as decimal
+use Rattle.number.specs.declared.digits.NoForm.{NoForm}
+use Rattle.std.specs.Prelude.{Result, Ok, Err}
 use Rattle.number.proofs.Laws.{decimal-form}
 use Rattle.cell.specs.declared.kind.Shape.{Shape}
 use Rattle.cell.specs.Raw.{fits_raw}
 use Rattle.cell.proofs.Signed.{Is, back, is-fits, is-back, is_read, is_mul, is-add, is-abs, is_zero, is-nonzero, abs-pos}
 use Rattle.convert.specs.declared.method.Coefficients.{Coefficients}
-use Rattle.convert.specs.declared.asked.RawAnswer.{RawAnswer}
-use Rattle.convert.specs.declared.asked.RawAnswer.TheVariants as raw
+use Rattle.convert.specs.declared.asked.RawRefusal.{RawRefusal}
 use Rattle.number.specs.Signed.{signed_of, most_signed}
 use Rattle.convert.specs.Whole.{all_small, Small}
 use Rattle.convert.specs.Limit.{at_most}
@@ -89,27 +88,16 @@ module _ (up : Halves) (k : Coefficients) (d : Scaled) (b : Bool) (e : b ≡ all
   unfolding nearest_raw
   near_none h = rw (sym e ∙ h)
 
--- ---- type and mask
-module _ (t : Shape) (mask : ℕ) (a : RawAnswer) where
-  pub fitting-is : (z y : ℤ) {b : Bool} → a ≡ raw.Raw z → y ≡ z → b ≡ fits_raw t mask y → b ≡ true → given y ≡ fitting_raw t mask (told_raw a)
-  fitting-is z y e p h k = rw (e, sym p, sym h ∙ k)
-
-  pub fitting-not : (z y : ℤ) {b : Bool} → a ≡ raw.Raw z → y ≡ z → b ≡ fits_raw t mask y → b ≡ false → refused 18 ≡ fitting_raw t mask (told_raw a)
-  fitting-not z y e p h k = rw (e, sym p, sym h ∙ k)
-
-  pub fitting-refused : (n : ℕ) → a ≡ raw.Refused n → refused n ≡ fitting_raw t mask (told_raw a)
-  fitting-refused n e = rw e
-
--- ---- form, limits, nearest
-pub asked-tens : (s : List ℕ) (a : DecimalAnswer) (d : Decimal) → told_decimal a ≡ decimal_of s → a ≡ decimal.Number d → d.tens ≤ 6
+-- ---- form, limits, nearest, type and mask
+pub asked-tens : (s : List ℕ) (a : Result Decimal NoForm) (d : Decimal) → told_decimal a ≡ decimal_of s → a ≡ Ok d → d.tens ≤ 6
 asked-tens s a d told e = (decimal-form s (scaled d) (sym (ap told_decimal e) ∙ told)).tens_most
 
-module _ (up : Halves) (lower upper : Scaled) (k : Coefficients) (t : Shape) (mask : ℕ) (s : List ℕ) (a : DecimalAnswer) (told : told_decimal a ≡ decimal_of s) where
-  pub asked-formless : (n : ℕ) → a ≡ decimal.Refused n → refused 15 ≡ rounded_raw up lower upper k t mask s
+module _ (up : Halves) (lower upper : Scaled) (k : Coefficients) (t : Shape) (mask : ℕ) (s : List ℕ) (a : Result Decimal NoForm) (told : told_decimal a ≡ decimal_of s) where
+  pub asked-formless : (n : NoForm) → a ≡ Err n → refused 15 ≡ rounded_raw up lower upper k t mask s
   unfolding rounded_raw asked_of
   asked-formless n e = rw (sym told, e)
 
-  module _ (d : Decimal) (e : a ≡ decimal.Number d) where
+  module _ (d : Decimal) (e : a ≡ Ok d) where
     is : decimal_of s ≡ given (scaled d)
     is = sym told ∙ ap told_decimal e
 
@@ -125,8 +113,23 @@ module _ (up : Halves) (lower upper : Scaled) (k : Coefficients) (t : Shape) (ma
       unfolding rounded_raw asked_of
       asked-outside o = rw (is, le-leb d.whole 1000000000 h, sym test ∙ o)
 
-      pub asked_is : {n r : Answer ℤ} → (x && y) ≡ true → n ≡ nearest_raw up k (scaled d) → r ≡ fitting_raw t mask n → r ≡ rounded_raw up lower upper k t mask s
-      unfolding rounded_raw asked_of
-      asked_is o p q = q ∙ ap (fitting_raw t mask) p ∙ rw (is, le-leb d.whole 1000000000 h, sym test ∙ o)
+      module _ (o : (x && y) ≡ true) (n : Result ℤ RawRefusal) (p : told_raw n ≡ nearest_raw up k (scaled d)) where
+        asked_is : fitting_raw t mask (told_raw n) ≡ rounded_raw up lower upper k t mask s
+        unfolding rounded_raw asked_of
+        asked_is = ap (fitting_raw t mask) p ∙ rw (is, le-leb d.whole 1000000000 h, sym test ∙ o)
 
-pub ruleset askeds = (asked-signed, product-fits, worked-fits, worked-size, worked-some, raw-none, raw-is, small-told, over-size, under-size, ten-fits, near-is, near_none, fitting-is, fitting-not, fitting-refused, asked-formless, asked-tens, asked-large, asked-outside, asked_is, rules)
+        pub asked-none : (r : RawRefusal) → n ≡ Err r → told_raw (Err r) ≡ rounded_raw up lower upper k t mask s
+        asked-none r en = sym (ap (λ (x : Result ℤ RawRefusal). fitting_raw t mask (told_raw x)) en) ∙ asked_is
+
+        -- u is what the machine reads back of z
+        module _ (z u : ℤ) (en : n ≡ Ok z) (eu : u ≡ z) {b : Bool} (eb : b ≡ fits_raw t mask u) where
+          fitted : cond (fits_raw t mask u) (given u) (refused 18) ≡ rounded_raw up lower upper k t mask s
+          fitted = rw eu (sym (ap (λ (w : Result ℤ RawRefusal). fitting_raw t mask (told_raw w)) en) ∙ asked_is)
+
+          pub asked-fits : b ≡ true → given u ≡ rounded_raw up lower upper k t mask s
+          asked-fits q = ap (λ (w : Bool). cond w (given u) (refused 18)) (sym q ∙ eb) ∙ fitted
+
+          pub asked-unfit : b ≡ false → refused 18 ≡ rounded_raw up lower upper k t mask s
+          asked-unfit q = ap (λ (w : Bool). cond w (given u) (refused 18)) (sym q ∙ eb) ∙ fitted
+
+pub ruleset askeds = (asked-signed, product-fits, worked-fits, worked-size, worked-some, raw-none, raw-is, small-told, over-size, under-size, ten-fits, near-is, near_none, asked-formless, asked-tens, asked-large, asked-outside, rules)

@@ -1,4 +1,4 @@
--- Powers of ten: the code's branches as laws, which `search wholes` applies.
+-- A power of ten: the code's branches as laws, which `search wholes` applies.
 use mathlib.Core.Path.{◌≡◌, ap, ◌∙◌}
 use mathlib.Core.Bool.{Bool}
 use Prim.Native.Nat.{ℕ, ◌*◌, ◌^◌, ◌≤◌, ◌<◌}
@@ -11,13 +11,6 @@ use Rattle.number.specs.Signed.{signed_of}
 use Rattle.number.proofs.Signs.{under-most}
 use Rattle.convert.proofs.Limits.{ten-product}
 
--- ---- a power of ten
-pub ten-at : (n k r : ℕ) → n ≡ k → r ≡ 10 ^ k → r ≡ 10 ^ n
-ten-at n k r e p = p ∙ rw e
-
-pub ten-last : (n : ℕ) → n ≤ 6 → (n ≡ 0 → ⊥) → (n ≡ 1 → ⊥) → (n ≡ 2 → ⊥) → (n ≡ 3 → ⊥) → (n ≡ 4 → ⊥) → (n ≡ 5 → ⊥) → 1000000 ≡ 10 ^ n
-ten-last n h a b c d e f = let k : n ≡ 6 = omega arith in rw k
-
 -- ---- n times r, a power of ten: y is what the machine reads back of z
 module _ (n t r : ℕ) (e : r ≡ 10 ^ t) where
   pub times-small : n ≤ 9999999999 → t ≤ 6 → n * r < 2 ^ 63
@@ -29,4 +22,4 @@ module _ (n t r : ℕ) (e : r ≡ 10 ^ t) where
   pub times-is : (b : Bool) (y z : ℤ) → z ≡ signed_of b (n * r) → y ≡ z → y ≡ signed_of b (n * 10 ^ t)
   times-is b y z p q = q ∙ p ∙ ap (λ (m : ℕ). signed_of b (n * m)) e
 
-pub ruleset wholes = (under-most, ten-at, ten-last, times-small, times-fits, times-is, rules)
+pub ruleset wholes = (under-most, times-small, times-fits, times-is, rules)

@@ -1,20 +1,19 @@
 -- What the code's answers say, case by case, with document 01's numbers.
-use Rattle.std.specs.Prelude.{cond, eqb, ℤ, pos, nat_abs}
+use Rattle.std.specs.Prelude.{ℕ, cond, eqb, ℤ, pos, nat_abs, Result, Ok, Err}
 use Rattle.number.specs.Answer.{Answer, given, refused}
 use Rattle.convert.specs.declared.method.Coefficients.{Coefficients}
-use Rattle.convert.specs.declared.method.MethodAnswer.{MethodAnswer}
-use Rattle.convert.specs.declared.method.MethodAnswer.TheVariants as method
+use Rattle.convert.specs.declared.method.NoConversion.{NoConversion}
 use Rattle.convert.specs.declared.fraction.Physical.{Physical}
 use Rattle.convert.specs.declared.fraction.Shown.{Shown}
 use Rattle.convert.specs.declared.fraction.Shown.TheVariants as shown
-use Rattle.convert.specs.declared.asked.RawAnswer.{RawAnswer}
-use Rattle.convert.specs.declared.asked.RawAnswer.TheVariants as raw
+use Rattle.convert.specs.declared.asked.RawRefusal.{RawRefusal}
+use Rattle.convert.specs.declared.asked.RawRefusal.TheVariants as raw
 use Rattle.convert.specs.Fraction.{Value, none, number, text}
 use Rattle.convert.specs.Shown.{Display, real, words, nothing}
 
-abbrev pub told_method : MethodAnswer → Answer Coefficients
-told_method (method.Whole k) = given k
-told_method (method.Refused k) = refused k
+abbrev pub told_method : Result Coefficients NoConversion → Answer Coefficients
+told_method (Ok k) = given k
+told_method (Err e) = refused 10
 
 -- How a line holds a value: "state (0 none, 1 number, 2 text), and the fraction's two numbers, or the text's first byte and the one past it, ..; zeros for none".
 abbrev pub held : Value → Physical
@@ -31,6 +30,13 @@ told_shown (shown.Real x) = real x
 told_shown (shown.Words a b) = words a b
 told_shown shown.Nothing = nothing
 
-abbrev pub told_raw : RawAnswer → Answer ℤ
-told_raw (raw.Raw z) = given z
-told_raw (raw.Refused k) = refused k
+-- "15: asked value outside its form; 16: outside limits; 17: no raw value exists; 18: doesn't fit type or mask"
+abbrev pub raw_refusal_number : RawRefusal → ℕ
+raw_refusal_number raw.NoForm = 15
+raw_refusal_number raw.OutsideLimits = 16
+raw_refusal_number raw.NoRaw = 17
+raw_refusal_number raw.NoFit = 18
+
+abbrev pub told_raw : Result ℤ RawRefusal → Answer ℤ
+told_raw (Ok z) = given z
+told_raw (Err r) = refused (raw_refusal_number r)

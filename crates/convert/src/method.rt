@@ -6,12 +6,13 @@ ghost use Rattle.convert.specs.Limit.{formed};
 ghost use Rattle.convert.specs.Method.{times_ten, same_products, sound_method, judged_method, rat_func, linear_of, identical_of};
 ghost use Rattle.convert.specs.Told.{told_method};
 
-use crate::whole::{is_formed, larger, ten, times_ten};
+use crate::whole::{is_formed, times_ten};
 use cell::size::size;
 use number::decimal::Decimal;
 
-// "b·f = c·e, or one of the four above 10^9"
-pub const NO_CONVERSION: u8 = 10;
+// "10: b·f = c·e, or one of the four above 10^9"
+#[derive(Clone, Copy)]
+pub struct NoConversion;
 
 // "Each of the four is at most 10^9 in size."
 const MOST_COEFFICIENT: u64 = 1000000000;
@@ -23,12 +24,6 @@ pub struct Coefficients {
     pub c: i64,
     pub e: i64,
     pub f: i64,
-}
-
-#[derive(Clone, Copy)]
-pub enum MethodAnswer {
-    Whole(Coefficients),
-    Refused { no: u8 },
 }
 
 // Whether each of the four is at most 10^9 in size.
@@ -59,14 +54,14 @@ pub fn is_sound(k: Coefficients) -> bool
     false
 }
 
-// Four whole numbers where they are a conversion, and else 10.
-fn judge(k: Coefficients) -> MethodAnswer
+// Four whole numbers where they are a conversion.
+fn judge(k: Coefficients) -> Result<Coefficients, NoConversion>
     ensures { told_method result ≡ judged_method k }
 {
     if is_sound(k) {
-        return MethodAnswer::Whole(k);
+        return Ok(k);
     }
-    MethodAnswer::Refused { no: NO_CONVERSION }
+    Err(NoConversion)
 }
 
 // A decimal times 10^t, which makes it whole.
@@ -79,11 +74,16 @@ fn made_whole(d: Decimal, t: u32) -> i64
 }
 
 // RAT_FUNC with a and d of 0: the four others made whole at the smallest common power of ten.
-pub fn rat_func(b: Decimal, c: Decimal, e: Decimal, f: Decimal) -> MethodAnswer
+pub fn rat_func(
+    b: Decimal,
+    c: Decimal,
+    e: Decimal,
+    f: Decimal,
+) -> Result<Coefficients, NoConversion>
     ensures { told_method result ≡ rat_func (scaled b) (scaled c) (scaled e) (scaled f) }
 {
     if is_formed(b) & is_formed(c) & is_formed(e) & is_formed(f) {
-        let t = larger(larger(b.tens, c.tens), larger(e.tens, f.tens));
+        let t = b.tens.max(c.tens).max(e.tens.max(f.tens));
         return judge(Coefficients {
             b: made_whole(b, t),
             c: made_whole(c, t),
@@ -91,23 +91,23 @@ pub fn rat_func(b: Decimal, c: Decimal, e: Decimal, f: Decimal) -> MethodAnswer
             f: made_whole(f, t),
         });
     }
-    MethodAnswer::Refused { no: NO_CONVERSION }
+    Err(NoConversion)
 }
 
 // LINEAR, PHYS = a·INT + b.
-pub fn linear(a: Decimal, b: Decimal) -> MethodAnswer
+pub fn linear(a: Decimal, b: Decimal) -> Result<Coefficients, NoConversion>
     ensures { told_method result ≡ linear_of (scaled a) (scaled b) }
 {
     if is_formed(a) & is_formed(b) {
-        let t = larger(a.tens, b.tens);
+        let t = a.tens.max(b.tens);
         return judge(Coefficients {
-            b: ten(t) as i64,
+            b: 10u64.pow(t) as i64,
             c: 0 - made_whole(b, t),
             e: 0,
             f: made_whole(a, t),
         });
     }
-    MethodAnswer::Refused { no: NO_CONVERSION }
+    Err(NoConversion)
 }
 
 // IDENTICAL and NO_COMPU_METHOD.

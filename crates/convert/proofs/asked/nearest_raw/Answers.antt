@@ -1,18 +1,9 @@
--- `convert::asked::nearest_raw` meets its contract. Assumes nothing.
+-- `nearest_raw` meets its contract.
 use Rattle.convert.proofs.AskedLaws.{askeds}
 use Rattle.convert.proofs.asked.nearest_raw.Goals as goal
 
-pub all_small-requires : goal.all_small-requires
-all_small-requires c = search askeds
-
-pub with_sign-requires : goal.with_sign-requires
-with_sign-requires c = search askeds
-
-pub ten-requires : goal.ten-requires
-ten-requires c = search askeds
-
-pub overflow_cast-ten : goal.overflow_cast-ten
-overflow_cast-ten c = search askeds
+pub overflow_cast-pow : goal.overflow_cast-pow
+overflow_cast-pow c = search askeds
 
 pub raw_for-requires : goal.raw_for-requires
 raw_for-requires c = search askeds

@@ -1,12 +1,6 @@
--- `convert::asked::raw_for` meets its contract. Assumes nothing.
+-- `raw_for` meets its contract.
 use Rattle.convert.proofs.AskedLaws.{askeds}
 use Rattle.convert.proofs.asked.raw_for.Goals as goal
-
-pub overflow_mul-n : goal.overflow_mul-n
-overflow_mul-n c = search askeds
-
-pub overflow_mul-n-2 : goal.overflow_mul-n-2
-overflow_mul-n-2 c = search askeds
 
 pub overflow_add-n : goal.overflow_add-n
 overflow_add-n c = search askeds

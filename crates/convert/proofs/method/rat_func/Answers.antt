@@ -1,27 +1,6 @@
--- `convert::method::rat_func` meets its contract. Assumes nothing.
+-- `rat_func` meets its contract.
 use Rattle.convert.proofs.MethodLaws.{rat-funcs}
 use Rattle.convert.proofs.method.rat_func.Goals as goal
-
-pub is_formed-requires : goal.is_formed-requires
-is_formed-requires c = search rat-funcs
-
-pub is_formed-requires-2 : goal.is_formed-requires-2
-is_formed-requires-2 c = search rat-funcs
-
-pub is_formed-requires-3 : goal.is_formed-requires-3
-is_formed-requires-3 c = search rat-funcs
-
-pub is_formed-requires-4 : goal.is_formed-requires-4
-is_formed-requires-4 c = search rat-funcs
-
-pub larger-requires : goal.larger-requires
-larger-requires c = search rat-funcs
-
-pub larger-requires-then-is_formed : goal.larger-requires-then-is_formed
-larger-requires-then-is_formed c = search rat-funcs
-
-pub larger-t-requires : goal.larger-t-requires
-larger-t-requires c = search rat-funcs
 
 pub made_whole-requires : goal.made_whole-requires
 made_whole-requires c = record { d_value = search rat-funcs; tens_le_t = (search rat-funcs, search rat-funcs) }
@@ -34,9 +13,6 @@ made_whole-requires-then-is_formed-2 c = record { d_value = search rat-funcs; te
 
 pub made_whole-requires-then-is_formed-3 : goal.made_whole-requires-then-is_formed-3
 made_whole-requires-then-is_formed-3 c = record { d_value = search rat-funcs; tens_le_t = (search rat-funcs, search rat-funcs) }
-
-pub judge-requires : goal.judge-requires
-judge-requires c = search rat-funcs
 
 pub returns-then-is_formed : goal.returns-then-is_formed
 returns-then-is_formed c = search rat-funcs

@@ -1,4 +1,4 @@
--- `convert::whole::is_formed` meets its contract. Assumes nothing.
+-- `is_formed` meets its contract.
 use mathlib.Core.Path.{refl}
 use Rattle.convert.specs.Limit.{formed}
 use Rattle.convert.proofs.whole.is_formed.Goals as goal

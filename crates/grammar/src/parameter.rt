@@ -10,8 +10,8 @@ ghost use Rattle.grammar.specs.Parameter.{sec_of, slot_of, wrong, after, keeping
 use crate::names::find;
 use crate::state::{Act, ITEMS, Move, State};
 use crate::view::{ENTRY, TABLE, before, count_of, current_of, decimal_slots, section_of, slot_of};
-use number::decimal::{Decimal, DecimalAnswer};
-use number::whole::WholeAnswer;
+use number::decimal::Decimal;
+use number::digits::NoForm;
 use rows::cells::{LIMIT_HIGH, LIMIT_LOW, PARAM_KIND, PARAM_NEXT, PARAM_SEC, PARAM_SLOT};
 use rows::slots::{ENTRY_SIGN, ENTRY_SIZE, ENTRY_TEXT, FIRST_HELD};
 use rows::{limit_cell, param_cell};
@@ -219,8 +219,8 @@ fn pairs_of(x: &[u8], s: State, a: usize, e: usize) -> Result<Move, Refusal>
     ensures { moved result ≡ of_pairs x.now s a e }
 {
     match runs::whole::whole_in(x, a, e, limit_cell(s.param, LIMIT_HIGH)) {
-        WholeAnswer::Number(n) => taken_pairs(s, e, n),
-        WholeAnswer::Refused { no } => Err(Refusal { no, place: a }),
+        Ok(n) => taken_pairs(s, e, n),
+        Err(NoForm) => Err(Refusal { no: 2, place: a }),
     }
 }
 
@@ -229,8 +229,8 @@ fn whole_of(x: &[u8], s: State, a: usize, e: usize) -> Result<Move, Refusal>
     ensures { moved result ≡ of_whole x.now s a e }
 {
     match runs::whole::whole_in(x, a, e, limit_cell(s.param, LIMIT_HIGH)) {
-        WholeAnswer::Number(n) => taken_whole(s, a, e, n),
-        WholeAnswer::Refused { no } => Err(Refusal { no, place: a }),
+        Ok(n) => taken_whole(s, a, e, n),
+        Err(NoForm) => Err(Refusal { no: 2, place: a }),
     }
 }
 
@@ -239,8 +239,8 @@ fn decimal_of(x: &[u8], t: &[u64], s: State, a: usize, e: usize) -> Result<Move,
     ensures { moved result ≡ of_decimal x.now (view_in t.now) s a e }
 {
     match decimals::decimal_in(x, a, e) {
-        DecimalAnswer::Number(d) => taken_decimal(t, s, a, e, d),
-        DecimalAnswer::Refused { no } => Err(Refusal { no, place: a }),
+        Ok(d) => taken_decimal(t, s, a, e, d),
+        Err(NoForm) => Err(Refusal { no: 2, place: a }),
     }
 }
 

@@ -1,21 +1,21 @@
 -- Blanks and comments, by the branches that the code takes.
-use Prim.Native.Nat.{ℕ, ◌+◌, ◌-◌, ◌≤◌, ◌<◌}
+use Prim.Native.Nat.{ℕ, ◌+◌, ◌-◌, ◌≤◌, ◌<◌, max}
 use mathlib.Core.Path.{◌≡◌, refl, sym, ◌∙◌, ap, subst}
 use mathlib.Core.List.{List}
-use mathlib.Core.Bool.{Bool, true, false, not, ◌&&◌, ◌||◌}
+use mathlib.Core.Bool.{Bool, true, false, not, ◌&&◌}
 use native.Mathlib.Omega.{arith}
 use borrow.Author.Rules.{rules}
-use borrow.Author.Tests.{eq-eqb, ne_eqb, eqb-false, leb-true, le-leb, lt-leb, le-ltb}
+use borrow.Author.Tests.{eq-eqb, ne_eqb, eqb-false, leb-true, leb-false, le-leb, lt-leb, le-ltb}
 use lib.ListN.{length}
 use lib.Dec.{leb, eqb}
 use Rattle.std.specs.Prelude.{Option, Some, None, Result, Ok, Err}
-use Rattle.text.specs.Walk.{on, done}
-use Rattle.text.specs.Answer.{Answer, given, refused, reached, gap_step}
+use Rattle.text.specs.Walk.{done}
+use Rattle.text.specs.Answer.{Answer, given, refused, gap_step}
 use Rattle.text.specs.Bytes.{byte, is_blank, is_allowed, pair_at}
 use Rattle.text.specs.Blank.{line_step, line_end, close_step, comment_end, blank_step, blank_at, token_ends}
 use Rattle.text.specs.declared.cursor.Cursor.{Cursor}
 use Rattle.text.specs.declared.cursor.Refusal.{Refusal}
-use Rattle.text.proofs.Walks.{Same, start, onto, stops, ends}
+use Rattle.text.proofs.Walks.{Same, start, onto, stops, ends, ends_for}
 use Rattle.text.proofs.ByteLaws.{via, byte_past, pair-other}
 use Rattle.text.proofs.Within.{and_left, and_right, Goes, Blanks, blank-goes}
 
@@ -30,9 +30,9 @@ module _ (s : List ℕ) (at i : ℕ) (q : InLine s at i) where
   unfolding line_end
   line-found h p = stops q h (rw (eq-eqb (byte s i) 10 p))
 
-  pub line-last : length s ≤ i → i ≡ line_end s at
+  pub line-last : (m : ℕ) → length s ≤ i → (at ≤ length s → i ≤ length s) → m ≡ max at (length s) → m ≡ line_end s at
   unfolding line_end
-  line-last h = ends q h
+  line-last m h near p = p ∙ ends_for q h near
 
 pub ruleset lines = (start, line_on, line-found, line-last, via, rules)
 
@@ -71,19 +71,7 @@ module _ (s : List ℕ) (k : ℕ) where
   unfolding token_ends
   ends_last h = rw (le-leb (length s) k h)
 
-  pub ends-blank : k < length s → is_blank (byte s k) ≡ true → true ≡ token_ends s k
-  unfolding token_ends
-  ends-blank h b = rw (lt-leb (length s) k h, b)
-
-  pub ends-quote : k < length s → is_blank (byte s k) ≡ false → byte s k ≡ 34 → true ≡ token_ends s k
-  unfolding token_ends
-  ends-quote h b q = rw (lt-leb (length s) k h, b, eq-eqb (byte s k) 34 q)
-
-  pub ends-comment : (p r : Bool) → k < length s → is_blank (byte s k) ≡ false → (byte s k ≡ 34 → ⊥) → p ≡ pair_at s k 47 47 → r ≡ pair_at s k 47 42 → (p || r) ≡ token_ends s k
-  unfolding token_ends
-  ends-comment p r h b q l c = rw (lt-leb (length s) k h, b, ne_eqb (byte s k) 34 q, l, c)
-
-pub ruleset token-ends = (ends-inner, ends_last, ends-blank, ends-quote, ends-comment, via, rules)
+pub ruleset token-ends = (ends-inner, rules)
 
 abbrev pub InComment : List ℕ → ℕ → ℕ → Type 0
 InComment s at i = Same (Answer ℕ) (length s) (close_step s) (λ k. refused 1 at) (at + 2) i
@@ -118,50 +106,45 @@ module _ (s : List ℕ) (k : ℕ) where
       let c : pair_at s k 47 42 ≡ false = sym (pair-other s k 47 42 (inner-slash (byte s k) t)) in
       rw (inner-blank (byte s k) t, l, c)
 
-  pub gap-blank : is_blank (byte s k) ≡ true → on (k + 1) ≡ blank_step s k
-  gap-blank b = rw b
-
-  pub gap-line : (e : ℕ) → is_blank (byte s k) ≡ false → pair_at s k 47 47 ≡ true → e ≡ line_end s (k + 2) → on e ≡ blank_step s k
-  gap-line e b l x = rw (b, l, x)
-
-  pub gap-none : is_blank (byte s k) ≡ false → pair_at s k 47 47 ≡ false → pair_at s k 47 42 ≡ false → done (given k) ≡ blank_step s k
-  gap-none b l c = rw (b, l, c)
-
-  -- r is what `comment` gave
-  module _ (r : Result Cursor Refusal) (b : is_blank (byte s k) ≡ false) (l : pair_at s k 47 47 ≡ false) (c : pair_at s k 47 42 ≡ true) (x : reached r ≡ comment_end s k) where
-    pub gap-comment : (d : Cursor) → r ≡ Ok d → on d.at ≡ blank_step s k
-    gap-comment d y = let z : comment_end s k ≡ given d.at = sym x ∙ ap reached y in rw (b, l, c, z)
-
-    pub gap-open : (e : Refusal) → r ≡ Err e → done (refused e.no e.place) ≡ blank_step s k
-    gap-open e y = let z : comment_end s k ≡ refused e.no e.place = sym x ∙ ap reached y in rw (b, l, c, z)
-
-pub ruleset gaps = (gap-end, gap-inner, gap-blank, gap-line, gap-none, gap-comment, gap-open, via, rules)
+pub ruleset gaps = (gap-end, gap-inner, rules)
 
 abbrev pub InBlanks : List ℕ → ℕ → ℕ → Type 0
 InBlanks s at i = Same (Answer ℕ) (length s) (blank_step s) given at i
 
 -- g is what `gap` gave at i
-module _ (s : List ℕ) (i : ℕ) (g : Result (Option Cursor) Refusal) (x : gap_step i g ≡ blank_step s i) (h : i < length s) where
-  further : (o : Option Cursor) (d : Cursor) → g ≡ Ok o → o ≡ Some d → i < d.at
-  further o d y z = (subst (Goes (length s) (Blanks s) i) (sym x ∙ ap (gap_step i) (y ∙ ap Ok z)) (blank-goes s i h)).0
+module _ (s : List ℕ) (i : ℕ) (g : Result (Option Cursor) Refusal) (x : gap_step i g ≡ blank_step s i) where
+  -- past the text's end there is no gap
+  stands : (v : Result (Option Cursor) Refusal) → g ≡ v → (gap_step i v ≡ done (given i) → ⊥) → i < length s
+  stands v y n = split (leb (length s) i) refl
+    where
+      split : (b : Bool) → leb (length s) i ≡ b → i < length s
+      split true t = absurd (n (sym (ap (gap_step i) y) ∙ x ∙ sym (gap-end s i (leb-true (length s) i t))))
+      split false t = leb-false (length s) i t
 
-  pub blank-less : (o : Option Cursor) (d : Cursor) → g ≡ Ok o → o ≡ Some d → length s - d.at < length s - i
-  blank-less o d y z = omega (arith, further o d y z)
+  module _ (o : Option Cursor) (d : Cursor) (y : g ≡ Ok o) (z : o ≡ Some d) where
+    inside : i < length s
+    inside = stands (Ok (Some d)) (y ∙ ap Ok z) (λ e. cc)
+
+    further : i < d.at
+    further = (subst (Goes (length s) (Blanks s) i) (sym x ∙ ap (gap_step i) (y ∙ ap Ok z)) (blank-goes s i inside)).0
+
+    pub blank-less : length s - d.at < length s - i
+    blank-less = omega (arith, further, inside)
+
+    pub blank-on : (at : ℕ) → InBlanks s at i → InBlanks s at d.at
+    blank-on at q = onto q inside (sym x ∙ ap (gap_step i) (y ∙ ap Ok z)) further
 
   module _ (at : ℕ) (q : InBlanks s at i) where
-    pub blank-on : (o : Option Cursor) (d : Cursor) → g ≡ Ok o → o ≡ Some d → InBlanks s at d.at
-    blank-on o d y z = onto q h (sym x ∙ ap (gap_step i) (y ∙ ap Ok z)) (further o d y z)
-
     pub blank_none : (o : Option Cursor) → g ≡ Ok o → o ≡ None → given i ≡ blank_at s at
     unfolding blank_at
-    blank_none o y z = stops q h (sym x ∙ ap (gap_step i) (y ∙ ap Ok z))
+    blank_none o y z = split (leb (length s) i) refl
+      where
+        split : (b : Bool) → leb (length s) i ≡ b → given i ≡ blank_at s at
+        split true t = ends q (leb-true (length s) i t)
+        split false t = stops q (leb-false (length s) i t) (sym x ∙ ap (gap_step i) (y ∙ ap Ok z))
 
     pub blank-refused : (e : Refusal) → g ≡ Err e → refused e.no e.place ≡ blank_at s at
     unfolding blank_at
-    blank-refused e y = stops q h (sym x ∙ ap (gap_step i) y)
+    blank-refused e y = stops q (stands (Err e) y (λ n. cc)) (sym x ∙ ap (gap_step i) y)
 
-pub blank-last : (s : List ℕ) (at i : ℕ) → InBlanks s at i → length s ≤ i → given i ≡ blank_at s at
-unfolding blank_at
-blank-last s at i q h = ends q h
-
-pub ruleset blanks = (start, blank-less, blank-on, blank_none, blank-refused, blank-last, via, rules)
+pub ruleset blanks = (start, blank-less, blank-on, blank_none, rules)

@@ -4,7 +4,6 @@ pub mod Within
 pub mod LikeLaws
 pub mod BlankLaws
 pub mod TokenLaws
-pub mod ItemLaws
 pub mod Pieces
 pub mod SkipWithin
 pub mod SkipLaws

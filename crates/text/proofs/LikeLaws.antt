@@ -1,11 +1,10 @@
 -- What is seen of two parts before their bytes are compared one by one: their lengths and their last bytes.
-use Prim.Native.Nat.{ℕ, suc, ◌+◌, ◌-◌, ◌≤◌, ◌<◌}
+use Prim.Native.Nat.{ℕ, suc, ◌+◌, ◌-◌, ◌≤◌}
 use mathlib.Core.Path.{◌≡◌, refl, sym, ◌∙◌, ap}
 use mathlib.Core.List.{List}
 use mathlib.Core.Bool.{Bool, true, false, ◌&&◌, ◌||◌, and-false, and-true, true≢false}
 use native.Mathlib.Omega.{arith}
-use borrow.Author.Rules.{rules}
-use borrow.Author.Tests.{eq-eqb, ne_eqb, le-leb, lt-leb, leb-true, eqb-true, eqb-false}
+use borrow.Author.Tests.{eq-eqb, le-leb, leb-true, eqb-true, eqb-false}
 use lib.Dec.{eqb, leb}
 use Rattle.text.specs.Bytes.{byte, same_for, same_part}
 use Rattle.text.proofs.ByteLaws.{SameBack, same-last, same-on, same_differs, same-other, same-all}
@@ -14,26 +13,6 @@ use Rattle.text.proofs.Within.{and_left, and_right}
 -- the bytes of s from k up to e are n, the last of them b
 abbrev pub is_like : List ℕ → ℕ → ℕ → ℕ → ℕ → Bool
 is_like s k e n b = leb k e && eqb (e - k) n && (eqb n 0 || eqb (byte s (e - 1)) b)
-
-module _ (s : List ℕ) (k e n b : ℕ) where
-  pub like-turned : e < k → false ≡ is_like s k e n b
-  like-turned h = rw (lt-leb k e h)
-
-  pub like-long : k ≤ e → (e - k ≡ n → ⊥) → false ≡ is_like s k e n b
-  like-long h d = rw (le-leb k e h, ne_eqb (e - k) n d)
-
-  module _ (h : k ≤ e) (d : e - k ≡ n) where
-    pub like-none : n ≡ 0 → true ≡ is_like s k e n b
-    like-none z = rw (le-leb k e h, eq-eqb (e - k) n d, eq-eqb n 0 z)
-
-    module _ (o : n ≡ 0 → ⊥) where
-      pub like-some : 1 ≤ e
-      like-some = omega (arith, o)
-
-      pub like-ends : (c : ℕ) → c ≡ byte s (e - 1) → eqb c b ≡ is_like s k e n b
-      like-ends c q = rw (le-leb k e h, eq-eqb (e - k) n d, ne_eqb n 0 o, q)
-
-pub ruleset likes = (like-turned, like-long, like-none, like-some, like-ends, rules)
 
 or_left : (a b : Bool) → (a || b) ≡ false → a ≡ false
 or_left true b h = h

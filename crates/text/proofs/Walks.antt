@@ -3,12 +3,13 @@
 --     onto      it is kept where the step at i goes on to e
 --     stops     where the step at i answers, that is the walk's answer
 --     ends      at the text's end the answer is `last`
-use Prim.Native.Nat.{ℕ, zero, suc, ◌+◌, ◌<◌, ◌≤◌}
+--     ends_for  the same after a loop over the places from `at` up to n, which is n, or `at` where that is past n
+use Prim.Native.Nat.{ℕ, zero, suc, ◌+◌, ◌<◌, ◌≤◌, max}
 use mathlib.Core.Path.{◌≡◌, refl}
 use native.Mathlib.Omega.{arith}
-use borrow.Author.Tests.{lt-ltb, le-ltb, ltb-true, ltb-false}
+use borrow.Author.Tests.{lt-ltb, le-ltb, ltb-true, ltb-false, leb-true, leb-false}
 use mathlib.Core.Bool.{Bool, true, false}
-use lib.Dec.{ltb}
+use lib.Dec.{ltb, leb}
 use Rattle.text.specs.Walk.{Step, on, done, onward, walk, over}
 
 pub record Same (A : Type 0) (n : ℕ) (step : ℕ → Step A) (last : ℕ → A) (at i : ℕ) : Type 0 where
@@ -45,6 +46,13 @@ module _ {A : Type 0} {n : ℕ} {step : ℕ → Step A} {last : ℕ → A} {at :
 
   pub ends : {i : ℕ} → Same A n step last at i → n ≤ i → last i ≡ over n step last at
   ends {i} q le = ends' n step last at i q.left q.same le
+
+  pub ends_for : {i : ℕ} → Same A n step last at i → n ≤ i → (at ≤ n → i ≤ n) → last (max at n) ≡ over n step last at
+  ends_for {i} q le near = split (leb at n) refl
+    where
+      split : (b : Bool) → leb at n ≡ b → last (max at n) ≡ over n step last at
+      split true t = let h : i ≤ n = near (leb-true at n t) in let z : max at n ≡ i = omega (arith, leb-true at n t) in rw z (ends q le)
+      split false t = let z : max at n ≡ at = omega (arith, leb-false at n t) in rw z (ends start (omega (arith, leb-false at n t)))
 
 -- What holds of the answer: P is kept by each step that goes on, which goes forward, and gives Q of each answer.
 module _ {A : Type 0} (n : ℕ) (step : ℕ → Step A) (last : ℕ → A) (P : ℕ → Type 0) (Q : A → Type 0)

@@ -10,17 +10,16 @@ use crate::cursor::{Cursor, Refusal};
 pub fn line_end(s: &[u8], at: usize) -> usize
     ensures { result ≡ line_end s.now at }
 {
-    let mut i = at;
-    while i < s.len() {
+    for i in at..s.len() {
         if s[i] == b'\n' {
             return i;
         }
-        i += 1;
     }
-    i
+    at.max(s.len())
 }
 
 // Whether a token may end at a place: a blank, a comment, a quote or the end stands there.
+#[tactic(auto, unfolding(crate::specs::Blank::token_ends))]
 pub fn token_ends(s: &[u8], at: usize) -> bool
     ensures { result ≡ token_ends s.now at }
 {
@@ -31,13 +30,7 @@ pub fn token_ends(s: &[u8], at: usize) -> bool
     if is_inner(b) {
         return false;
     }
-    if is_blank(b) {
-        return true;
-    }
-    if b == b'"' {
-        return true;
-    }
-    pair_at(s, at, b'/', b'/') | pair_at(s, at, b'/', b'*')
+    is_blank(b) || b == b'"' || pair_at(s, at, b'/', b'/') || pair_at(s, at, b'/', b'*')
 }
 
 impl Cursor {
@@ -49,12 +42,10 @@ impl Cursor {
         if s.len() <= at {
             return Err(Refusal { no: 1, place: at });
         }
-        let mut i = at + 2;
-        while i < s.len() {
+        for i in at + 2..s.len() {
             if pair_at(s, i, b'*', b'/') {
                 return Ok(Cursor { at: i + 2 });
             }
-            i += 1;
         }
         Err(Refusal { no: 1, place: at })
     }
@@ -90,18 +81,10 @@ impl Cursor {
     pub fn blanks(self, s: &[u8]) -> Result<Cursor, Refusal>
         ensures { reached result ≡ blank_at s.now self.at }
     {
-        let mut i = self.at;
-        while i < s.len() {
-            let c = Cursor { at: i };
-            match c.gap(s)? {
-                Some(past) => {
-                    i = past.at;
-                }
-                None => {
-                    return Ok(c);
-                }
-            }
+        let mut c = self;
+        while let Some(past) = c.gap(s)? {
+            c = past;
         }
-        Ok(Cursor { at: i })
+        Ok(c)
     }
 }

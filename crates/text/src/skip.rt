@@ -8,6 +8,7 @@ use crate::bytes::same_part;
 use crate::cursor::{Cursor, Item, Passed, Refusal, Tag};
 
 // Whether the bytes from k up to e are `A2ML`.
+#[tactic(auto, unfolding(crate::specs::Skip::is_a2ml))]
 pub fn is_a2ml(s: &[u8], k: usize, e: usize) -> bool
     ensures { result ≡ is_a2ml s.now k e }
 {
@@ -45,6 +46,7 @@ impl Cursor {
     }
 
     // Past the `A2ML` that closes the block where it stands after an `/end`; else the `/end` alone is passed.
+    // It is never refused; its clause cites `skipped`, which is said of a Result.
     pub fn after_end(self, s: &[u8]) -> Result<Passed, Refusal>
         ensures { skipped result ≡ after_end s.now self.at (next_item s.now self.at) }
     {
@@ -77,16 +79,12 @@ impl Cursor {
     pub fn past_a2ml(self, s: &[u8]) -> Result<Cursor, Refusal>
         ensures { reached result ≡ a2ml_end s.now self.at }
     {
-        let mut i = self.at;
-        while i < s.len() {
-            let c = Cursor { at: i };
+        let mut c = self;
+        // An item is passed at once, however long, which a range can't say.
+        while c.at < s.len() {
             match c.a2ml_item(s)? {
-                Passed::Past(past) => {
-                    i = past.at;
-                }
-                Passed::Closes(past) => {
-                    return Ok(past);
-                }
+                Passed::Past(past) => c = past,
+                Passed::Closes(past) => return Ok(past),
             }
         }
         Err(Refusal {
@@ -97,6 +95,7 @@ impl Cursor {
 
     // Past the next item of a block, with depth levels left below the block.
     #[cycle(skip_block_skip_item)]
+    #[tactic(auto, unfolding(crate::specs::Skip::skip_item, crate::specs::Skip::block_item))]
     pub fn skip_item(self, s: &[u8], depth: u8) -> Result<Passed, Refusal>
         ensures { skipped result ≡ skip_item depth s.now self.at }
     {
@@ -124,20 +123,15 @@ impl Cursor {
     pub fn skip_block(self, s: &[u8], from: usize, depth: u8) -> Result<Cursor, Refusal>
         ensures { reached result ≡ skip_block depth s.now from self.at }
     {
-        let to = self.at;
-        if is_a2ml(s, from, to) {
+        if is_a2ml(s, from, self.at) {
             return self.past_a2ml(s);
         }
-        let mut i = to;
-        while i < s.len() {
-            let c = Cursor { at: i };
+        let mut c = self;
+        // As in `past_a2ml`: an item is passed at once.
+        while c.at < s.len() {
             match c.skip_item(s, depth)? {
-                Passed::Past(past) => {
-                    i = past.at;
-                }
-                Passed::Closes(past) => {
-                    return past.closing(s, from, to);
-                }
+                Passed::Past(past) => c = past,
+                Passed::Closes(past) => return past.closing(s, from, self.at),
             }
         }
         Err(Refusal {

@@ -14,18 +14,16 @@ pub const NAME_BYTES: usize = 128;
 pub fn name_end(s: &[u8], at: usize) -> usize
     ensures { result ≡ name_end s.now at }
 {
-    let mut i = at;
-    while i < s.len() {
-        if in_name(s[i]) {
-            i += 1;
-        } else {
+    for i in at..s.len() {
+        if !in_name(s[i]) {
             return i;
         }
     }
-    i
+    at.max(s.len())
 }
 
 // Whether the bytes from k up to e are `/begin`.
+#[tactic(auto, unfolding(crate::specs::Token::is_begin))]
 pub fn is_begin(s: &[u8], k: usize, e: usize) -> bool
     ensures { result ≡ is_begin s.now k e }
 {
@@ -33,6 +31,7 @@ pub fn is_begin(s: &[u8], k: usize, e: usize) -> bool
 }
 
 // Whether the bytes from k up to e are `/end`.
+#[tactic(auto, unfolding(crate::specs::Token::is_end))]
 pub fn is_end(s: &[u8], k: usize, e: usize) -> bool
     ensures { result ≡ is_end s.now k e }
 {
@@ -46,10 +45,7 @@ impl Cursor {
     {
         let at = self.at;
         let e = name_end(s, at);
-        if NAME_BYTES < e - at {
-            return Err(Refusal { no: 1, place: at });
-        }
-        if token_ends(s, e) {
+        if e - at <= NAME_BYTES && token_ends(s, e) {
             return Ok(Token::Name {
                 start: at,
                 next: Cursor { at: e },
@@ -67,10 +63,9 @@ impl Cursor {
             return Err(Refusal { no: 1, place: at });
         }
         let mut i = at + 1;
+        // A pair of bytes is passed at once, which a range can't say.
         while i < s.len() {
-            if pair_at(s, i, b'\\', b'"') {
-                i += 2;
-            } else if pair_at(s, i, b'"', b'"') {
+            if pair_at(s, i, b'\\', b'"') || pair_at(s, i, b'"', b'"') {
                 i += 2;
             } else if s[i] == b'"' {
                 return Ok(Cursor { at: i + 1 });
@@ -98,18 +93,17 @@ impl Cursor {
         ensures { reached result ≡ run_end s.now self.at }
     {
         let at = self.at;
-        let mut i = at;
-        while i < s.len() {
+        for i in at..s.len() {
             if token_ends(s, i) {
                 return Ok(Cursor { at: i });
             }
-            if is_allowed(s[i]) {
-                i += 1;
-            } else {
+            if !is_allowed(s[i]) {
                 return Err(Refusal { no: 1, place: at });
             }
         }
-        Ok(Cursor { at: i })
+        Ok(Cursor {
+            at: at.max(s.len()),
+        })
     }
 
     // The run at the cursor, which starts as a number does.

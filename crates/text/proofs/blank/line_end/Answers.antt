@@ -4,17 +4,8 @@ use Rattle.text.proofs.blank.line_end.Goals as goal
 pub loop-i-init : goal.loop-i-init
 loop-i-init c = search lines
 
-pub bounds-s-i : goal.bounds-s-i
-bounds-s-i c = search lines
-
 pub returns-then-s-i-eq10 : goal.returns-then-s-i-eq10
 returns-then-s-i-eq10 c = search lines
-
-pub overflow_add-i : goal.overflow_add-i
-overflow_add-i c = search lines
-
-pub loop-i-smaller : goal.loop-i-smaller
-loop-i-smaller c = search lines
 
 pub loop-i-preserved : goal.loop-i-preserved
 loop-i-preserved c = search lines

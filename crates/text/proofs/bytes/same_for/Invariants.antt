@@ -4,6 +4,3 @@ use Rattle.text.proofs.bytes.same_for.Given as goal
 
 abbrev pub invariant-loop-i : goal.invariant-loop-i
 invariant-loop-i l = SameBack l.s l.k l.w l.j l.n (same_for l.n l.s l.k l.w l.j) l.i
-
-abbrev pub decreases-loop-i : goal.decreases-loop-i
-decreases-loop-i l = l.i

@@ -10,8 +10,8 @@ decreases-skip_block l = l.depth + l.depth + 1
 abbrev pub decreases-skip_item : goal.decreases-skip_item
 decreases-skip_item l = l.depth + l.depth
 
-abbrev pub invariant-skip_block-loop-i : goal.invariant-skip_block-loop-i
-invariant-skip_block-loop-i l = InBlock l.depth l.s l.from l.to l.i
+abbrev pub invariant-skip_block-loop-c : goal.invariant-skip_block-loop-c
+invariant-skip_block-loop-c l = InBlock l.depth l.s l.from l.fn.self.at l.c.at
 
-abbrev pub decreases-skip_block-loop-i : goal.decreases-skip_block-loop-i
-decreases-skip_block-loop-i l = length l.s - l.i
+abbrev pub decreases-skip_block-loop-c : goal.decreases-skip_block-loop-c
+decreases-skip_block-loop-c l = length l.s - l.c.at

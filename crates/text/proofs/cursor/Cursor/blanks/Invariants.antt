@@ -3,8 +3,8 @@ use Prim.Native.Nat.{◌-◌}
 use lib.ListN.{length}
 use Rattle.text.proofs.cursor.Cursor.blanks.Given as goal
 
-abbrev pub invariant-loop-i : goal.invariant-loop-i
-invariant-loop-i l = InBlanks l.s l.initial.i l.i
+abbrev pub invariant-loop-past : goal.invariant-loop-past
+invariant-loop-past l = InBlanks l.s l.initial.c.at l.c.at
 
-abbrev pub decreases-loop-i : goal.decreases-loop-i
-decreases-loop-i l = length l.s - l.i
+abbrev pub decreases-loop-past : goal.decreases-loop-past
+decreases-loop-past l = length l.s - l.c.at

@@ -7,11 +7,11 @@ loop-i-init c = search runs
 pub returns-then-token_ends : goal.returns-then-token_ends
 returns-then-token_ends c = search runs
 
+pub returns-then-not-is_allowed : goal.returns-then-not-is_allowed
+returns-then-not-is_allowed c = search runs
+
 pub loop-i-preserved : goal.loop-i-preserved
 loop-i-preserved c = search runs
-
-pub returns-else-is_allowed : goal.returns-else-is_allowed
-returns-else-is_allowed c = search runs
 
 pub returns : goal.returns
 returns c = search runs

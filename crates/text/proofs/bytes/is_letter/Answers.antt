@@ -1,5 +1,0 @@
-use Rattle.text.proofs.ByteLaws.{byte-classes}
-use Rattle.text.proofs.bytes.is_letter.Goals as goal
-
-pub returns : goal.returns
-returns c = search byte-classes

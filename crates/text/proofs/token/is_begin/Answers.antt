@@ -1,5 +1,0 @@
-use Rattle.text.proofs.TokenLaws.{mark-words}
-use Rattle.text.proofs.token.is_begin.Goals as goal
-
-pub returns : goal.returns
-returns c = search mark-words

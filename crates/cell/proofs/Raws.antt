@@ -2,10 +2,8 @@
 use mathlib.Core.Path.{◌≡◌, refl, sym, ap, ◌∙◌}
 use mathlib.Core.Bool.{Bool, true, false, cond, ◌&&◌}
 use mathlib.Core.List.{List}
-use Prim.Native.Nat.{ℕ, zero, suc, ◌+◌, ◌-◌, ◌^◌, ◌≤◌, ◌<◌}
-use native.Mathlib.Omega.{arith}
-use borrow.Author.Tests.{lt-leb, le-leb, leb-true, leb-false}
-use lib.Dec.{leb}
+use Prim.Native.Nat.{ℕ, zero, suc, ◌+◌, ◌^◌, ◌≤◌, ◌<◌}
+use borrow.Author.Tests.{leb-true}
 use lib.ListN.{length}
 use lib.IntN.{ℤ, pos, negsuc, nat_abs}
 use lib.Signed.{lt_z}
@@ -62,17 +60,6 @@ unfolding fits_raw
 fit-mask t zero z h f = absurd (h refl)
 fit-mask t (suc m) (pos n) h f = f
 fit-mask t (suc m) (negsuc n) h f = clash (sym f)
-
--- ---- inside
-pub not-inside : (n p w : ℕ) → n < p → false ≡ leb (p + w) n
-not-inside n p w h = sym (lt-leb (p + w) n (omega arith))
-
-pub end-inside : (n p w : ℕ) → p ≤ n → leb w (n - p) ≡ leb (p + w) n
-end-inside n p w h = go (leb w (n - p)) refl
-  where
-    go : (b : Bool) → leb w (n - p) ≡ b → b ≡ leb (p + w) n
-    go true e = sym (le-leb (p + w) n (omega (arith, leb-true w (n - p) e)))
-    go false e = sym (lt-leb (p + w) n (omega (arith, leb-false w (n - p) e)))
 
 -- ---- reading and writing at a place
 module _ (first : Bool) (p : ℕ) (t : Shape) (mask : ℕ) (s : List ℕ) where

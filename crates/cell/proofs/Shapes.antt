@@ -1,15 +1,11 @@
 -- What the one decision on data types says, by the ranges of codes that the code has; and no type has more than 4 bytes.
 use Prim.Native.Nat.{ℕ, zero, suc, ◌<◌, ◌≤◌}
 use mathlib.Core.Path.{◌≡◌, refl}
-use mathlib.Core.Bool.{false, ◌&&◌}
+use mathlib.Core.Bool.{false}
 use native.Mathlib.Omega.{arith}
-use lib.Dec.{eqb, leb}
+use lib.Dec.{eqb}
 use Rattle.cell.specs.declared.kind.Shape.{Shape}
-use Rattle.cell.specs.Kind.{is_type, shapes, shape_of}
-
-pub type-is : (k : ℕ) → (leb 1 k && leb k 6) ≡ is_type k
-unfolding is_type
-type-is k = refl
+use Rattle.cell.specs.Kind.{shapes, shape_of}
 
 pub shape-byte : (k : ℕ) → 1 ≤ k → k ≤ 2 → ◌≡◌ {A = Shape} (record { bytes = 1; signed = eqb k 2; align = 1 }) (shape_of k)
 unfolding shape_of shapes

@@ -6,11 +6,10 @@ use Prim.Native.Nat.{ℕ, zero, suc, ◌+◌, ◌*◌, ◌-◌, ◌≤◌, ◌<�
 use native.Mathlib.Nat.{le_refl, le_trans, mul-le-mul, add-le-add}
 use native.Mathlib.Omega.{arith}
 use lib.Dec.{T, ltb, ltb→lt}
-use lib.IntN.{ℤ, pos, negsuc, neg_ℤ, nat_abs, sub_ℕ, ◌+ℤ◌, ◌-ℤ◌, ◌*ℤ◌, +ℤ_idl, +ℤ_one}
-use lib.Signed.{mag, lt_z, non_neg}
-use borrow.Author.Tests.{ltb-true}
+use lib.IntN.{ℤ, pos, negsuc, neg_ℤ, nat_abs, sub_ℕ, ◌+ℤ◌, ◌-ℤ◌, ◌*ℤ◌, +ℤ_idl}
+use lib.Signed.{mag, lt_z}
 use mir.Syntax.{w64}
-use mir.Val.{Fits, SFits, to_z, of_z}
+use mir.Val.{SFits, to_z, of_z}
 use mir.Facts.{to_z-of_z, to_z_pos}
 
 pub abs_neg : (z : ℤ) → nat_abs (neg_ℤ z) ≡ nat_abs z
@@ -94,20 +93,10 @@ pub is-abs : {x z : ℤ} {m : ℕ} → Is x z m → nat_abs x ≡ nat_abs z
 is-abs i = ap nat_abs i.same
 
 -- ---- signs, and casts to and from an unsigned number
-pub not-non_neg : (z : ℤ) → lt_z z (pos 0) ≡ false → T (non_neg z)
-not-non_neg (pos n) h = tt
-not-non_neg (negsuc n) h = let k : ◌≡◌ {A = ℕ} 0 1 = cc in absurd (omega arith)
-
 pub abs-pos : (z : ℤ) → (z ≡ pos 0 → ⊥) → 0 < nat_abs z
 abs-pos (pos zero) h = absurd (h refl)
 abs-pos (pos (suc n)) h = omega arith
 abs-pos (negsuc n) h = omega arith
-
-pub is-unsigned : {x z : ℤ} {m : ℕ} → Is x z m → T (non_neg z) → T (ltb m (2 ^ 63)) → T (non_neg x) × Fits w64 (nat_abs x)
-is-unsigned {x} {z} {m} i p t = (
-  subst (λ (y : ℤ). T (non_neg y)) (sym i.same) p,
-  record { fits = let h = ltb→lt m (2 ^ 63) t in omega (arith, is-abs i, i.size) },
-)
 
 pub is-cast : (n : ℕ) → n < 2 ^ 63 → Is (to_z w64 n) (pos n) 9223372036854775807
 is-cast n h = record { same = to_z_pos w64 h; size = omega arith }
@@ -122,13 +111,3 @@ is-cast-le n {m} h t = record { same = to_z_pos w64 (let k = ltb→lt m (2 ^ 63)
 -- a parameter of which only its type is known
 pub is-param : {z : ℤ} → SFits w64 z → Is (back z) z (nat_abs z)
 is-param {z} f = record { same = to_z-of_z f; size = le_refl (nat_abs z) }
-
--- one more than a number below 0 is the opposite of its `mag`
-pub suc-neg : (z : ℤ) → lt_z z (pos 0) ≡ true → z +ℤ pos 1 ≡ neg_ℤ (pos (mag z))
-suc-neg (pos n) h = let k = ltb-true n 0 h in absurd (omega arith)
-suc-neg (negsuc zero) h = refl
-suc-neg (negsuc (suc n)) h = +ℤ_one (negsuc (suc n))
-
-pub abs_mag : (z : ℤ) → lt_z z (pos 0) ≡ true → nat_abs z ≡ mag z + 1
-abs_mag (pos n) h = let k = ltb-true n 0 h in absurd (omega arith)
-abs_mag (negsuc n) h = omega arith

@@ -19,11 +19,9 @@ pub fn stored_at(s: &[u8], at: usize, width: usize, first: bool) -> u32
     ensures { result ≡ stored_at first at width s.now }
 {
     let mut n: u32 = 0;
-    let mut i: usize = 0;
-    while i < width {
+    for i in 0..width {
         let j = place(first, at, width, i);
         n = n * 256 + (s[j] as u32);
-        i += 1;
     }
     n
 }
@@ -34,11 +32,9 @@ pub fn store_at(s: &mut [u8], at: usize, width: usize, first: bool, n: u64)
     ensures { s.new ≡ with_stored first at width n s.old }
 {
     let mut m = n;
-    let mut i: usize = 0;
-    while i < width {
+    for i in 0..width {
         let j = place(!first, at, width, i);
         s[j] = (m % 256) as u8;
-        m = m / 256;
-        i += 1;
+        m /= 256;
     }
 }

@@ -1,4 +1,5 @@
 // Data types, by code. Any other code is none, and has no bytes.
+// Numbers and no enum: shape_of answers for every number, as its clause says, and the lent tables hold the number.
 ghost use Rattle.std.specs.Prelude.{◌≡◌};
 ghost use Rattle.cell.specs.Kind.{is_type, shape_of};
 
@@ -26,7 +27,7 @@ pub struct Shape {
 pub fn is_type(code: u64) -> bool
     ensures { result ≡ is_type code }
 {
-    (UBYTE <= code) & (code <= SLONG)
+    (UBYTE..=SLONG).contains(&code)
 }
 
 // The one decision on a data type.

@@ -7,7 +7,7 @@ pub fn extract(stored: u64, mask: u64) -> u64
     requires { 0 < mask }
     ensures { result ≡ masked stored mask }
 {
-    (stored & mask) >> u64::trailing_zeros(mask)
+    (stored & mask) >> mask.trailing_zeros()
 }
 
 // Whether a raw number, shifted back, has no bit outside the mask. A number above the shifted mask has one, and no other loses a bit.
@@ -15,7 +15,7 @@ pub fn fits_mask(raw: u64, mask: u64) -> bool
     requires { 0 < mask }
     ensures { result ≡ fits_mask raw mask }
 {
-    let low = u64::trailing_zeros(mask);
+    let low = mask.trailing_zeros();
     if mask >> low < raw {
         return false;
     }
@@ -29,6 +29,6 @@ pub fn insert(stored: u64, mask: u64, raw: u64) -> u64
     requires mask_value { fits_mask raw mask ≡ true }
     ensures { result ≡ inserted stored mask raw }
 {
-    let low = u64::trailing_zeros(mask);
+    let low = mask.trailing_zeros();
     (stored & !mask) | (raw << low)
 }

@@ -14,10 +14,7 @@ use crate::size::size;
 fn is_inside(length: usize, at: usize, width: usize) -> bool
     ensures { result ≡ leb (at + width) length }
 {
-    if length < at {
-        return false;
-    }
-    width <= length - at
+    at <= length && width <= length - at
 }
 
 // The raw number of a stored number.

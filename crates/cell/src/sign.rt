@@ -9,13 +9,7 @@ pub fn range(width: usize) -> u64
     requires { width ≤ 4 }
     ensures { result ≡ 256 ^ width }
 {
-    match width {
-        0 => 1,
-        1 => 256,
-        2 => 65536,
-        3 => 16777216,
-        _ => 4294967296,
-    }
+    256u64.pow(width as u32)
 }
 
 // The raw number that a stored number is.

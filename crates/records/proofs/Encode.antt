@@ -3,7 +3,7 @@
 --     count-encode, slot-encode, put-encode, add-encode      the operations
 --     good-put, good-add, none-good     what keeps and starts Good;  none-encode: no records are zeros
 use Prim.Native.Nat.{ℕ, zero, suc, ◌+◌, ◌-◌, ◌*◌, ◌<◌, ◌≤◌, min}
-use mathlib.Core.Path.{◌≡◌, refl, ap, sym, subst, ◌∙◌}
+use mathlib.Core.Path.{◌≡◌, refl, ap, sym, ◌∙◌}
 use mathlib.Core.List.{List, [], ◌∷◌, ◌++◌, append_assoc, append-nil}
 use mathlib.Core.Bool.{Bool, true, false, cond, ◌&&◌, true≢false, false≢true}
 use native.Mathlib.Nat.{suc-add, zero-add, add-zero, mul-le-mul_left, mul-suc}

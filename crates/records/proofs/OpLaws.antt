@@ -1,43 +1,27 @@
 -- The operations on cells, by the branches that the code takes.
-use Prim.Native.Nat.{ℕ, ◌+◌, ◌-◌, ◌*◌, ◌^◌, ◌≤◌, ◌<◌}
-use mathlib.Core.Path.{◌≡◌, refl, sym, ◌∙◌, ap}
-use mathlib.Core.List.{List, ◌++◌, append-nil}
-use mathlib.Core.Bool.{Bool, true, false, cond, ◌&&◌}
-use native.Mathlib.Omega.{arith}
+use Prim.Native.Nat.{ℕ, ◌+◌, ◌*◌, ◌^◌, ◌≤◌, ◌<◌}
+use mathlib.Core.Path.{◌≡◌, sym}
+use mathlib.Core.List.{List}
+use mathlib.Core.Bool.{true, false, ◌&&◌}
 use native.Mathlib.Nat.{mul-le-mul_left, mul-le-mul_right, le_trans, le_of_lt}
 use borrow.Author.Rules.{rules}
 use borrow.Author.Tests.{lt-ltb, le-ltb}
-use lib.Dec.{ltb, leb}
-use lib.ListN.{length, get_or, set, replicate, drop, get_or-eq_default}
-use lib.Seq.{set_out, drop-length}
+use lib.Dec.{ltb}
+use lib.ListN.{length, get_or, set}
+use lib.Seq.{set_out}
 use Rattle.records.specs.Cells.{place, count_in, slot_in, put_in, add_in}
 use Rattle.records.specs.declared.Section.{Section}
-
-pub get-past : (t : List ℕ) (i : ℕ) → length t ≤ i → 0 ≡ get_or t i 0
-get-past t i h = sym (get_or-eq_default t 0 h)
 
 pub set_past : (t : List ℕ) (i v : ℕ) → length t ≤ i → t ≡ set t i v
 set_past t i v h = sym (set_out t i v h)
 
-pub ruleset cells = (get-past, set_past, rules)
+pub ruleset cells = (set_past, rules)
 
 -- a width times a record's number is small
 pub product : (w i : ℕ) → w < 2 ^ 8 → i < 2 ^ 16 → w * i ≤ 2 ^ 24
 product w i a b = le_trans (mul-le-mul_left w (le_of_lt b)) (mul-le-mul_right (2 ^ 16) (le_of_lt a))
 
--- a list that was filled to its end
-pub filled : (d t : List ℕ) (i : ℕ) → i ≡ length d → t ≡ replicate i 0 ++ drop i d → t ≡ replicate (length d) 0
-filled d t i e h = h ∙ rw (e, drop-length) (append-nil _)
-
 module _ (t : List ℕ) (c : Section) where
-  pub count-some : (n : ℕ) → n < c.most → n ≡ get_or t c.base 0 → n ≡ count_in t c
-  unfolding count_in
-  count-some n h p = rw (← p) (omega arith)
-
-  pub count-full : (n : ℕ) → c.most ≤ n → n ≡ get_or t c.base 0 → c.most ≡ count_in t c
-  unfolding count_in
-  count-full n h p = rw (← p) (omega arith)
-
   -- p is the place
   pub slot-there : (i k p v : ℕ) → (ltb i c.most && ltb k c.width) ≡ true → p ≡ place c i k → v ≡ get_or t p 0 → v ≡ slot_in t c i k
   unfolding slot_in
@@ -65,4 +49,4 @@ module _ (t : List ℕ) (c : Section) where
     unfolding add_in
     add_none h = rw (← m, le-ltb n c.most h)
 
-pub ruleset ops = (count-some, count-full, slot-there, slot-none, put-there, put-none, add-there, add_none, rules)
+pub ruleset ops = (slot-there, slot-none, put-there, put-none, add-there, add_none, rules)

@@ -1,6 +1,6 @@
 -- The same records in the cells of one lent slice: for each section the number of its records, then room for the most of them.
-use Rattle.std.specs.Prelude.{ℕ, zero, suc, ◌+◌, ◌-◌, ◌*◌, min, List, [], ◌∷◌, ◌++◌, Bool, true, false, cond, ◌&&◌, length, get_or, set, replicate, ltb}
-use Rattle.records.specs.Records.{Sec, no_sec, width_of, most_of}
+use Rattle.std.specs.Prelude.{ℕ, zero, suc, ◌+◌, ◌-◌, ◌*◌, min, List, [], ◌∷◌, ◌++◌, cond, ◌&&◌, length, get_or, set, replicate, ltb}
+use Rattle.records.specs.Records.{Sec, width_of, most_of}
 use Rattle.records.specs.declared.Section.{Section}
 
 -- the records one after the other

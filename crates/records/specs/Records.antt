@@ -1,5 +1,5 @@
 -- Records of numbers, in sections: for each section a list of records, each a list of as many numbers as the section is wide.
-use Rattle.std.specs.Prelude.{ℕ, zero, suc, ◌+◌, ◌*◌, List, [], ◌∷◌, ◌++◌, Bool, true, false, cond, length, get_or, set, replicate, ltb}
+use Rattle.std.specs.Prelude.{ℕ, List, [], ◌∷◌, ◌++◌, cond, length, get_or, set, replicate, ltb}
 
 -- a section: how many numbers a record has, and how many records there are at most
 pub record Sec : Type 0 where

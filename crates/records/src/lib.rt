@@ -4,7 +4,8 @@
 ghost use Rattle.std.specs.Prelude.{◌≡◌, length, get_or, set, replicate};
 ghost use Rattle.records.specs.Cells.{place, count_in, slot_in, put_in, add_in};
 
-// A section: where it begins, how many numbers a record has, how many records there are at most.
+// A section: where it begins, how many numbers a record has, how many records there are at most. What reads and writes one are functions:
+// `slot(t, SECTION, i, k)` names the lent slice first, which a method of the section would hide among the places.
 #[derive(Clone, Copy)]
 pub struct Section {
     pub base: u32,
@@ -16,10 +17,10 @@ pub struct Section {
 pub fn get(t: &[u64], i: usize) -> u64
     ensures { result ≡ get_or t.now i 0 }
 {
-    if i < t.len() { t[i] } else { 0 }
+    t.get(i).copied().unwrap_or(0)
 }
 
-// Stores in the cell at a place, and nothing past the end.
+// Stores in the cell at a place, and nothing past the end. The test says as much as `if let Some(c) = t.get_mut(i) { *c = v; }`.
 pub fn set(t: &mut [u64], i: usize, v: u64)
     ensures { t.new ≡ set t.old i v }
 {
@@ -32,11 +33,7 @@ pub fn set(t: &mut [u64], i: usize, v: u64)
 pub fn clear(t: &mut [u64])
     ensures { t.new ≡ replicate (length t.old) 0 }
 {
-    let mut i = 0;
-    while i < t.len() {
-        t[i] = 0;
-        i += 1;
-    }
+    t.fill(0);
 }
 
 // Where number k of record i stands.
@@ -50,11 +47,7 @@ fn place_of(c: Section, i: u16, k: u16) -> usize
 pub fn count(t: &[u64], c: Section) -> u16
     ensures { result ≡ count_in t.now c }
 {
-    let n = get(t, c.base as usize);
-    if n < (c.most as u64) {
-        return n as u16;
-    }
-    c.most
+    get(t, c.base as usize).min(c.most as u64) as u16
 }
 
 // Number k of record i.

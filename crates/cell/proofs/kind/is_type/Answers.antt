@@ -1,5 +1,8 @@
-use Rattle.cell.proofs.Shapes.{type-is}
+-- `cell::kind::is_type` meets its contract. Assumes nothing.
+use borrow.Author.Rules.{rules}
+use Rattle.cell.specs.Kind.{is_type}
 use Rattle.cell.proofs.kind.is_type.Goals as goal
 
 pub returns : goal.returns
-returns c = search type-is
+unfolding is_type
+returns c = search rules

@@ -1,19 +1,7 @@
 -- `cell::sign::range` meets its contract. Assumes nothing.
-use mathlib.Core.Path.{◌≡◌}
 use native.Mathlib.Omega.{arith}
+use Rattle.cell.proofs.Types.{power_le}
 use Rattle.cell.proofs.sign.range.Goals as goal
 
-pub returns-in-0 : goal.returns-in-0
-returns-in-0 c = rw c.in-0.is
-
-pub returns-in-1 : goal.returns-in-1
-returns-in-1 c = rw c.in-1.is
-
-pub returns-in-2 : goal.returns-in-2
-returns-in-2 c = rw c.in-2.is
-
-pub returns-in-3 : goal.returns-in-3
-returns-in-3 c = rw c.in-3.is
-
-pub returns-in_default : goal.returns-in_default
-returns-in_default c = let e : c.args.width ≡ 4 = omega arith in rw e
+pub pow-requires : goal.pow-requires
+pow-requires c = omega (arith, power_le c.args.width c.requires)

@@ -76,38 +76,30 @@ unfolding block_in skip_block
 in-less zero s a e h = absurd (h refl)
 in-less (suc d) s a e h = let p : d ≡ suc d - 1 = omega arith in ap (λ (n : ℕ). with (tag_at 5 s e) (λ tag. block_end (block_in n s) s tag.0 tag.1)) p
 
--- r is what `item` gave in a block with d levels left, by its cases v
-module _ (d : ℕ) (s : List ℕ) (k : ℕ) (r : Result Item Refusal) (p : told_item r ≡ next_item s k) where
-  skip_is : (v : Result Item Refusal) → r ≡ v → with (told_item v) (block_piece (block_in d s)) ≡ skip_item d s k
+-- r is what `item` gave in a block with d levels left: an item i, a `/begin`
+module _ (d : ℕ) (s : List ℕ) (k : ℕ) (r : Result Item Refusal) (p : told_item r ≡ next_item s k) (i : Item) (y : r ≡ Ok i) (a : ℕ) (c : Cursor) (z : i ≡ item.Begin a c) where
+  begins : with (block_in d s a c.at) (λ j. given (past j)) ≡ skip_item d s k
   unfolding skip_item block_item
-  skip_is v y = ap (λ x. with x (block_piece (block_in d s))) (sym (ap told_item y) ∙ p)
+  begins = ap (λ x. with x (block_piece (block_in d s))) (sym (ap told_item (y ∙ ap Ok z)) ∙ p)
 
-  module _ (i : Item) (y : r ≡ Ok i) where
-    skip_of : (v : Item) → i ≡ v → with (told_item (Ok v)) (block_piece (block_in d s)) ≡ skip_item d s k
-    skip_of v z = skip_is (Ok v) (y ∙ ap Ok z)
+  pub skip-deep : d ≡ 0 → refused 3 a ≡ skip_item d s k
+  skip-deep h = rw (in-none d s a c.at h) at begins
 
-    module _ (a : ℕ) (c : Cursor) (z : i ≡ item.Begin a c) where
-      begins : with (block_in d s a c.at) (λ j. given (past j)) ≡ skip_item d s k
-      begins = skip_of (item.Begin a c) z
+  -- g is what `tag` gave
+  module _ (h : d ≡ 0 → ⊥) (g : Result Tag Refusal) (t : tagged g ≡ tag_at 5 s c.at) where
+    held : (v : Result Tag Refusal) → g ≡ v → with (with (tagged v) (λ tag. skip_block (d - 1) s tag.0 tag.1)) (λ j. given (past j)) ≡ skip_item d s k
+    held v x = ap (λ w. with (with w (λ tag. skip_block (d - 1) s tag.0 tag.1)) (λ j. given (past j))) (sym (ap tagged x) ∙ t) ∙ rw (in-less d s a c.at h) at begins
 
-      pub skip-deep : d ≡ 0 → refused 3 a ≡ skip_item d s k
-      skip-deep h = rw (in-none d s a c.at h) at begins
+    pub skip-untagged : (e : Refusal) → g ≡ Err e → refused e.no e.place ≡ skip_item d s k
+    skip-untagged e = held (Err e)
 
-      -- g is what `tag` gave
-      module _ (h : d ≡ 0 → ⊥) (g : Result Tag Refusal) (t : tagged g ≡ tag_at 5 s c.at) where
-        held : (v : Result Tag Refusal) → g ≡ v → with (with (tagged v) (λ tag. skip_block (d - 1) s tag.0 tag.1)) (λ j. given (past j)) ≡ skip_item d s k
-        held v x = ap (λ w. with (with w (λ tag. skip_block (d - 1) s tag.0 tag.1)) (λ j. given (past j))) (sym (ap tagged x) ∙ t) ∙ rw (in-less d s a c.at h) at begins
+    -- b is what `skip_block` gave
+    module _ (f : Tag) (x : g ≡ Ok f) (b : Result Cursor Refusal) (q : reached b ≡ skip_block (d - 1) s f.start f.next.at) where
+      pub skip-inner : (u : Cursor) → b ≡ Ok u → given (past u.at) ≡ skip_item d s k
+      skip-inner u w = ap (λ u. with u (λ j. given (past j))) (sym (ap reached w) ∙ q) ∙ held (Ok f) x
 
-        pub skip-untagged : (e : Refusal) → g ≡ Err e → refused e.no e.place ≡ skip_item d s k
-        skip-untagged e = held (Err e)
-
-        -- b is what `skip_block` gave
-        module _ (f : Tag) (x : g ≡ Ok f) (b : Result Cursor Refusal) (q : reached b ≡ skip_block (d - 1) s f.start f.next.at) where
-          pub skip-inner : (u : Cursor) → b ≡ Ok u → given (past u.at) ≡ skip_item d s k
-          skip-inner u w = ap (λ u. with u (λ j. given (past j))) (sym (ap reached w) ∙ q) ∙ held (Ok f) x
-
-          pub skip-inner-refused : (e : Refusal) → b ≡ Err e → refused e.no e.place ≡ skip_item d s k
-          skip-inner-refused e w = ap (λ u. with u (λ j. given (past j))) (sym (ap reached w) ∙ q) ∙ held (Ok f) x
+      pub skip-inner-refused : (e : Refusal) → b ≡ Err e → refused e.no e.place ≡ skip_item d s k
+      skip-inner-refused e w = ap (λ u. with u (λ j. given (past j))) (sym (ap reached w) ∙ q) ∙ held (Ok f) x
 
 abbrev pub InBlock : ℕ → List ℕ → ℕ → ℕ → ℕ → Type 0
 InBlock d s f t i = InItems s (closing s f t) (skip_item d s) t i

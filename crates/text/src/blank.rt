@@ -55,14 +55,10 @@ impl Cursor {
         ensures { gap_step self.at result ≡ blank_step s.now self.at }
     {
         let at = self.at;
-        if s.len() <= at {
+        if s.len() <= at || is_inner(s[at]) {
             return Ok(None);
         }
-        let b = s[at];
-        if is_inner(b) {
-            return Ok(None);
-        }
-        if is_blank(b) {
+        if is_blank(s[at]) {
             return Ok(Some(Cursor { at: at + 1 }));
         }
         if pair_at(s, at, b'/', b'/') {
@@ -71,8 +67,7 @@ impl Cursor {
             }));
         }
         if pair_at(s, at, b'/', b'*') {
-            let past = self.comment(s)?;
-            return Ok(Some(past));
+            return Ok(Some(self.comment(s)?));
         }
         Ok(None)
     }

@@ -57,7 +57,6 @@ impl Cursor {
     pub fn item(self, s: &[u8]) -> Result<Item, Refusal>
         ensures { told_item result ≡ next_item s.now self.at }
     {
-        let c = self.blanks(s)?;
-        c.item_here(s)
+        self.blanks(s)?.item_here(s)
     }
 }

@@ -23,9 +23,9 @@ impl Cursor {
     {
         match self.item(s)? {
             Item::Run { start, next } => Ok(Tag { start, next }),
-            Item::Text { start, next: _ } => Err(Refusal { no, place: start }),
-            Item::Begin { start, next: _ } => Err(Refusal { no, place: start }),
-            Item::End { start, next: _ } => Err(Refusal { no, place: start }),
+            Item::Text { start, .. } | Item::Begin { start, .. } | Item::End { start, .. } => {
+                Err(Refusal { no, place: start })
+            }
             Item::Finish { place } => Err(Refusal { no: 3, place }),
         }
     }
@@ -51,12 +51,7 @@ impl Cursor {
         ensures { skipped result ≡ after_end s.now self.at (next_item s.now self.at) }
     {
         match self.item(s) {
-            Ok(Item::Run { start, next }) => {
-                if is_a2ml(s, start, next.at) {
-                    return Ok(Passed::Closes(next));
-                }
-                Ok(Passed::Past(self))
-            }
+            Ok(Item::Run { start, next }) if is_a2ml(s, start, next.at) => Ok(Passed::Closes(next)),
             _ => Ok(Passed::Past(self)),
         }
     }
@@ -67,10 +62,10 @@ impl Cursor {
         ensures { skipped result ≡ a2ml_item s.now self.at }
     {
         match self.item(s)? {
-            Item::End { start: _, next } => next.after_end(s),
-            Item::Text { start: _, next } => Ok(Passed::Past(next)),
-            Item::Run { start: _, next } => Ok(Passed::Past(next)),
-            Item::Begin { start: _, next } => Ok(Passed::Past(next)),
+            Item::End { next, .. } => next.after_end(s),
+            Item::Text { next, .. } | Item::Run { next, .. } | Item::Begin { next, .. } => {
+                Ok(Passed::Past(next))
+            }
             Item::Finish { place } => Err(Refusal { no: 3, place }),
         }
     }
@@ -111,9 +106,8 @@ impl Cursor {
                 let past = tag.next.skip_block(s, tag.start, depth - 1)?;
                 Ok(Passed::Past(past))
             }
-            Item::End { start: _, next } => Ok(Passed::Closes(next)),
-            Item::Text { start: _, next } => Ok(Passed::Past(next)),
-            Item::Run { start: _, next } => Ok(Passed::Past(next)),
+            Item::End { next, .. } => Ok(Passed::Closes(next)),
+            Item::Text { next, .. } | Item::Run { next, .. } => Ok(Passed::Past(next)),
             Item::Finish { place } => Err(Refusal { no: 3, place }),
         }
     }

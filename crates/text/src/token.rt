@@ -162,7 +162,6 @@ impl Cursor {
     pub fn token(self, s: &[u8]) -> Result<Token, Refusal>
         ensures { told result ≡ next_token s.now self.at }
     {
-        let c = self.blanks(s)?;
-        c.token_here(s)
+        self.blanks(s)?.token_here(s)
     }
 }

@@ -10,7 +10,7 @@ use borrow.Author.Rules.{rules}
 use lib.Dec.{eqb, ltb}
 use lib.ListN.{length, take, drop, get_or, length-drop, drop_of_length-le}
 use lib.Seq.{drop-cons, drop-drop, drop-length}
-use Rattle.lines.specs.Field.{before, place_from, line_end, field_count, up_to_tab, past_tab, field_of}
+use Rattle.lines.specs.Field.{before, place_from, field_count, up_to_tab, past_tab, field_of}
 
 -- ---- the first place of a byte
 low_turn : (t : Bool) (n m : ℕ) → n ≤ m → cond t 0 (suc n) ≤ suc m
@@ -58,12 +58,6 @@ module _ (c : ℕ) (s : List ℕ) (at : ℕ) where
           omega (arith, from c s i l, from c s (i + 1) g, q)
 
 pub ruleset places = (place_end, place_here, place-on, rules)
-
-pub line-is : (s : List ℕ) (at r : ℕ) → r ≡ place_from 10 s at → r ≡ line_end s at
-unfolding line_end
-line-is s at r e = e
-
-pub ruleset lines = (line-is, rules)
 
 -- ---- how many fields
 pub record Tabs (s : List ℕ) (i count : ℕ) : Type 0 where
@@ -129,34 +123,36 @@ unfolding field_of
 field-first zero l h = refl
 field-first (suc k) l h = absurd (omega arith)
 
-pub record Left (s : List ℕ) (k at left : ℕ) : Type 0 where
-  pub same : field_of left (drop at s) ≡ field_of k s
+-- past i tabs the field looked for is field k - i of the rest
+pub record Left (s : List ℕ) (k at i : ℕ) : Type 0 where
+  pub same : field_of (k - i) (drop at s) ≡ field_of k s
   pub low : at ≤ length s
 
 module _ (s : List ℕ) (k : ℕ) where
-  pub left-start : Left s k 0 k
-  left-start = record { same = refl; low = omega arith }
+  pub left-start : Left s k 0 0
+  left-start = let e : k - 0 ≡ k = omega arith in record { same = rw e; low = omega arith }
 
-  module _ (at left : ℕ) (q : Left s k at left) where
-    pub left_end : left ≤ 0 → up_to_tab (drop at s) ≡ field_of k s
-    left_end h = sym (field-first left (drop at s) h) ∙ q.same
+  module _ (at i : ℕ) (q : Left s k at i) where
+    pub left_end : k ≤ i → up_to_tab (drop at s) ≡ field_of k s
+    left_end h = sym (field-first (k - i) (drop at s) (omega arith)) ∙ q.same
 
-    module _ (tab : ℕ) (h : 0 < left) (p : tab ≡ place_from 9 s at) where
-      on : field_of (left - 1) (drop (tab + 1) s) ≡ field_of k s
+    module _ (tab : ℕ) (h : i < k) (p : tab ≡ place_from 9 s at) where
+      on : field_of (k - (i + 1)) (drop (tab + 1) s) ≡ field_of k s
       on =
           let e : at + suc (before 9 (drop at s)) ≡ tab + 1 = omega (arith, from 9 s at q.low) in
           let d : past_tab (drop at s) ≡ drop (tab + 1) s = past_is (drop at s) ∙ drop-drop (suc (before 9 (drop at s))) at s ∙ ap (λ (n : ℕ). drop n s) e in
-          rw (← d) (sym (field_next left (drop at s) h) ∙ q.same)
+          let m : k - (i + 1) ≡ k - i - 1 = omega arith in
+          rw (m, ← d) (sym (field_next (k - i) (drop at s) (omega arith)) ∙ q.same)
 
-      pub left-on : tab < length s → Left s k (tab + 1) (left - 1)
+      pub left-on : tab < length s → Left s k (tab + 1) (i + 1)
       left-on g = record { same = on; low = omega arith }
 
       pub left-none : length s ≤ tab → up_to_tab (drop (length s) s) ≡ field_of k s
       unfolding up_to_tab
       left-none g =
           let l : length s ≤ tab + 1 = omega arith in
-          let e : field_of (left - 1) [] ≡ field_of k s = rw (drop_of_length-le s l) at on in
-          rw (drop-length s) (sym (field_of-none (left - 1)) ∙ e)
+          let e : field_of (k - (i + 1)) [] ≡ field_of k s = rw (drop_of_length-le s l) at on in
+          rw (drop-length s) (sym (field_of-none (k - (i + 1))) ∙ e)
 
 pub ruleset starts = (left-start, left_end, left-on, left-none, rules)
 

@@ -3,20 +3,18 @@ ghost use Rattle.std.specs.Prelude.{◌≡◌, ◌≤◌, length, drop};
 ghost use Rattle.lines.specs.Field.{place_from, line_end, field_count, field_of, up_to_tab};
 
 // The byte that parts fields, and the byte that ends a line.
-const TAB: u8 = 9;
+const TAB: u8 = b'\t';
 
-const LF: u8 = 10;
+const LF: u8 = b'\n';
 
 // The place of the first byte b at or after a place, or the length.
 fn place_from(s: &[u8], from: usize, b: u8) -> usize
     ensures { result ≡ place_from b s.now from }
 {
-    let mut i = from;
-    while i < s.len() {
+    for i in from..s.len() {
         if s[i] == b {
             return i;
         }
-        i += 1;
     }
     s.len()
 }
@@ -32,13 +30,11 @@ pub fn line_end(s: &[u8], from: usize) -> usize
 pub fn field_count(s: &[u8]) -> usize
     ensures { result ≡ field_count s.now }
 {
-    let mut i: usize = 0;
     let mut count: usize = 1;
-    while i < s.len() {
-        if s[i] == TAB {
+    for &b in s {
+        if b == TAB {
             count += 1;
         }
-        i += 1;
     }
     count
 }
@@ -48,14 +44,12 @@ fn field_start(s: &[u8], k: usize) -> usize
     ensures { (up_to_tab (drop result s.now) ≡ field_of k s.now) × (result ≤ length s.now) }
 {
     let mut at: usize = 0;
-    let mut left = k;
-    while 0 < left {
+    for _ in 0..k {
         let tab = place_from(s, at, TAB);
         if s.len() <= tab {
             return s.len();
         }
         at = tab + 1;
-        left -= 1;
     }
     at
 }

@@ -3,12 +3,10 @@ ghost use Rattle.std.specs.Prelude.{[], ◌∷◌, ◌+◌, ◌≤◌, ◌<◌, 
 ghost use Rattle.print.specs.Print.{figures_of, signed};
 ghost use Rattle.print.specs.Put.{Put};
 
-use cell::size::size;
-
 // The figure 0, and the minus sign.
-const ZERO: u8 = 48;
+const ZERO: u8 = b'0';
 
-pub const MINUS: u8 = 45;
+pub const MINUS: u8 = b'-';
 
 // How many figures a number of 64 bits has at most.
 const FIGURES: u8 = 20;
@@ -20,7 +18,6 @@ pub fn put_byte(out: &mut [u8], at: usize, b: u8) -> usize
 {
     if at < out.len() {
         out[at] = b;
-        return at + 1;
     }
     at + 1
 }
@@ -53,7 +50,7 @@ pub fn put_signed(out: &mut [u8], at: usize, z: i64) -> usize
     requires { at < 2 ^ 58 }
     ensures { Put at (signed z) out.old result out.new × (result ≤ at + 21) }
 {
-    let n = size(z);
+    let n = z.unsigned_abs();
     if z < 0 {
         let e = put_byte(out, at, MINUS);
         return put_figures(out, e, n);

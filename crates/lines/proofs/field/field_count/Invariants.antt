@@ -1,11 +1,6 @@
--- `field_count` meets its contract. The loop keeps `Tabs`.
+-- What the loop of `lines::field::field_count` keeps.
 use Rattle.lines.proofs.Fields.{Tabs}
-use lib.ListN.{length}
-use Prim.Native.Nat.{◌-◌}
 use Rattle.lines.proofs.field.field_count.Given as goal
 
-abbrev pub invariant-loop-i : goal.invariant-loop-i
-invariant-loop-i l = Tabs l.s l.i l.count
-
-abbrev pub decreases-loop-i : goal.decreases-loop-i
-decreases-loop-i l = length l.s - l.i
+abbrev pub invariant-loop-b : goal.invariant-loop-b
+invariant-loop-b l = Tabs l.s l.b-index l.count

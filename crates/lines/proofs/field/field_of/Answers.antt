@@ -1,12 +1,6 @@
--- `field_of` meets its contract.
+-- `lines::field::field_of` meets its contract. Assumes nothing.
 use Rattle.lines.proofs.Fields.{fields}
 use Rattle.lines.proofs.field.field_of.Goals as goal
-
-pub field_start-a-requires : goal.field_start-a-requires
-field_start-a-requires c = search fields
-
-pub place_from-e-requires : goal.place_from-e-requires
-place_from-e-requires c = search fields
 
 pub slice_bounds-result-count : goal.slice_bounds-result-count
 slice_bounds-result-count c = search fields

@@ -1,9 +1,7 @@
--- `line_end` meets its contract.
-use Rattle.lines.proofs.Fields.{lines}
+-- `lines::field::line_end` meets its contract. Assumes nothing.
+use Rattle.lines.specs.Field.{line_end}
 use Rattle.lines.proofs.field.line_end.Goals as goal
 
-pub place_from-requires : goal.place_from-requires
-place_from-requires c = search lines
-
 pub returns : goal.returns
-returns c = search lines
+unfolding line_end
+returns c = c.place_from.ensures

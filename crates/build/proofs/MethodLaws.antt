@@ -10,6 +10,8 @@ use lib.IntN.{ℤ, pos, negsuc, nat_abs}
 use lib.Signed.{lt_z, mag}
 use mir.Facts.{to_z-of_z}
 use mir.Syntax.{w64}
+use Rattle.std.specs.Prelude.{Option, Result, Ok, Err}
+use Rattle.std.specs.Result.{result_unwrap_or}
 use Rattle.cell.proofs.Signed.{back}
 use lib.ListN.{length, replicate}
 use native.Mathlib.Omega.{arith}
@@ -17,14 +19,12 @@ use Rattle.number.specs.Answer.{Answer, given, refused}
 use Rattle.convert.specs.Method.{identical_of}
 use Rattle.convert.specs.Told.{told_method}
 use Rattle.convert.specs.declared.method.Coefficients.{Coefficients}
-use Rattle.convert.specs.declared.method.MethodAnswer.{MethodAnswer}
-use Rattle.convert.specs.declared.method.MethodAnswer.TheVariants as answer
+use Rattle.convert.specs.declared.method.NoConversion.{NoConversion}
 use Rattle.records.specs.Cells.{section_in, count_in, put_in}
 use Rattle.rows.specs.Sections.{method, table}
 use Rattle.rows.specs.Slots.{conversion_type, compu_tab_ref, compu_tab_ref_past}
 use Rattle.grammar.specs.Move.{View}
 use Rattle.grammar.specs.Parameter.{find, found_at}
-use Rattle.grammar.specs.declared.names.Found.{Found}
 use Rattle.methods.specs.Methods.{coefficients}
 use Rattle.tables.specs.Form.{table_sections}
 use Rattle.tables.specs.Form as form
@@ -55,13 +55,10 @@ coefficients-are m k b c e f u u₁ u₂ u₃ u₄ p q r s pb pc pe pf =
 pub handed : (z : ℤ) → mag z < 2 ^ 63 → back z ≡ z
 handed z h = to_z-of_z {w = w64} (record { sfits = h })
 
-pub some-whole : (a : MethodAnswer) (k : Coefficients) → a ≡ answer.Whole k → k ≡ coefficients_in (told_method a)
-some-whole a k y = rw y
-
-pub no_whole : (a : MethodAnswer) (n : ℕ) (k : Coefficients) → a ≡ answer.Refused n → k ≡ identical_of → k ≡ coefficients_in (told_method a)
-no_whole a n k y p = p ∙ rw y
-
-pub ruleset whole-ones = (some-whole, no_whole, rules)
+-- what there is of coefficients that were asked for
+some-whole : (r : Result Coefficients NoConversion) (d : Coefficients) → d ≡ identical_of → result_unwrap_or r d ≡ coefficients_in (told_method r)
+some-whole (Ok k) d p = refl
+some-whole (Err e) d p = p
 
 module _ (v : View) (i k : ℕ) (p : k ≡ v.slots method i conversion_type) where
   pub word-linear : k ≡ 20 → 20 ≡ conversion_of v i
@@ -88,16 +85,16 @@ row-of-ten a z m bs u u₁ u₂ u₃ u₄ l p o q r s =
     (sym (puts-on (put_in (opened u form.method_section) (section_in table_sections form.method_section) (count_in u (section_in table_sections form.method_section)) 0 a) form.method_section (count_in u (section_in table_sections form.method_section)) 1 bs (z ∷ [])
     ∙ rw e))
 
-pub fraction-is : (v : View) (i c m : ℕ) (a : MethodAnswer) (k : Coefficients) (u u₁ u₂ u₃ u₄ : List ℕ) → c ≡ conversion_of v i → told_method a ≡ coefficients v i → k ≡ coefficients_in (told_method a)
+pub fraction-is : (v : View) (i c m : ℕ) (a : Result Coefficients NoConversion) (d k : Coefficients) (u u₁ u₂ u₃ u₄ : List ℕ) → c ≡ conversion_of v i → told_method a ≡ coefficients v i → d ≡ identical_of → k ≡ result_unwrap_or a d
     → m ≡ count_in u (section_in table_sections form.method_section) → u₁ ≡ opened u form.method_section → u₂ ≡ put_in u₁ (section_in table_sections form.method_section) m 0 c → u₃ ≡ puts_at u₂ form.method_section m 1 (coefficient_cells k)
     → u₄ ≡ put_in u₃ (section_in table_sections form.method_section) m 9 0 → u₄ ≡ row_in u form.method_section (fraction_row v i)
-fraction-is v i c m a k u u₁ u₂ u₃ u₄ pc pa pk p o q r s =
+fraction-is v i c m a d k u u₁ u₂ u₃ u₄ pc pa pd pk p o q r s =
     row-of-ten c 0 m (coefficient_cells k) u u₁ u₂ u₃ u₄ refl p o q r s
-    ∙ ap (row_in u form.method_section) (rw (pc, pk ∙ ap coefficients_in pa))
+    ∙ ap (row_in u form.method_section) (rw (pc, pk ∙ some-whole a d pd ∙ ap coefficients_in pa))
 
 pub ruleset fractions = (fraction-is, rules)
 
-pub table-number-is : (x : List ℕ) (v : View) (i a e n : ℕ) (f : Found) → a ≡ v.slots method i compu_tab_ref → e ≡ v.slots method i compu_tab_ref_past → found_at f ≡ find x v table a e → n ≡ found_at f → n ≡ table_number x v i
+pub table-number-is : (x : List ℕ) (v : View) (i a e n : ℕ) (f : Option ℕ) → a ≡ v.slots method i compu_tab_ref → e ≡ v.slots method i compu_tab_ref_past → found_at f ≡ find x v table a e → n ≡ found_at f → n ≡ table_number x v i
 table-number-is x v i a e n f p q r s = s ∙ r ∙ rw (p, q)
 
 pub ruleset table-numbers = (table-number-is, rules)

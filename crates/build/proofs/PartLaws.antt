@@ -9,6 +9,7 @@ use borrow.Author.Rules.{rules}
 use borrow.Author.Tests.{eq-eqb, ne_eqb}
 use lib.Dec.{eqb}
 use lib.ListN.{length, replicate}
+use Rattle.std.specs.Prelude.{Option}
 use Rattle.text.specs.Bytes.{same_part, spelt}
 use Rattle.number.specs.Decimal.{Scaled}
 use Rattle.number.specs.Told.{scaled}
@@ -17,8 +18,6 @@ use Rattle.records.specs.Cells.{section_in, count_in, put_in, add_in}
 use Rattle.rows.specs.Sections.{method}
 use Rattle.grammar.specs.Move.{View, decimal_slots}
 use Rattle.grammar.specs.Parameter.{find, found_at}
-use Rattle.grammar.specs.declared.names.Found.{Found}
-use Rattle.grammar.specs.declared.names.Found.TheVariants as found
 use Rattle.place.specs.declared.order.Entry.{Entry}
 use Rattle.tables.specs.Form.{table_sections, group_section}
 use Rattle.build.specs.Build.{flag, method_number, method_in, forbids, decimal_cells, limit_cells, meaning, standing_cells, counter_cells, no_part_cells}
@@ -27,20 +26,12 @@ use Rattle.build.specs.declared.part.Source.{Source}
 use Rattle.build.specs.declared.part.Spot.{Spot}
 use Rattle.build.proofs.RowLaws.{puts-on}
 
-pub number_at : (f : Found) (i : ℕ) → f ≡ found.At i → i + 1 ≡ found_at f
-number_at f i y = rw y (add-one i)
-
-pub number-none : (f : Found) → f ≡ found.Nothing → 0 ≡ found_at f
-number-none f y = rw y
-
-pub ruleset numbers = (number_at, number-none, rules)
-
 module _ (x : List ℕ) (v : View) (a e : ℕ) (b : Bool) (p : b ≡ same_part x a e (spelt "NO_COMPU_METHOD") 0 15) where
   pub method-none : b ≡ true → 0 ≡ method_number x v a e
   unfolding method_number
   method-none h = rw (← p, h)
 
-  pub method-found : (f : Found) (n : ℕ) → b ≡ false → found_at f ≡ find x v method a e → n ≡ found_at f → n ≡ method_number x v a e
+  pub method-found : (f : Option ℕ) (n : ℕ) → b ≡ false → found_at f ≡ find x v method a e → n ≡ found_at f → n ≡ method_number x v a e
   unfolding method_number
   method-found f n h q r = rw (← p, h) (r ∙ q)
 

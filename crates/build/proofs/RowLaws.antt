@@ -6,35 +6,13 @@ use native.Mathlib.Omega.{arith}
 use native.Mathlib.Nat.{add-zero}
 use native.Mathlib.Numerals.{add-one}
 use borrow.Author.Rules.{rules}
-use lib.ListN.{length, replicate, length-replicate}
+use lib.ListN.{length, get_or, take}
+use lib.Seq.{length-take-le, take-suc, take_all}
 use Rattle.records.specs.Cells.{section_in, count_in, put_in, add_in}
 use Rattle.grammar.proofs.ReadLaws.{length-put, length-add}
 use Rattle.tables.specs.Form.{table_sections}
 use Rattle.build.specs.Build.{rows_below}
 use Rattle.build.specs.Row.{puts_at, opened, row_in, rows_in}
-
-module _ (j i k a b : ℕ) (t t₁ t₂ : List ℕ) (p : t₁ ≡ put_in t (section_in table_sections j) i k a) (q : t₂ ≡ put_in t₁ (section_in table_sections j) i (k + 1) b) where
-  pub two_is : t₂ ≡ puts_at t j i k (a ∷ b ∷ [])
-  unfolding puts_at
-  two_is = q ∙ rw (p, add-one k)
-
-  module _ (c : ℕ) (t₃ : List ℕ) (r : t₃ ≡ put_in t₂ (section_in table_sections j) i (k + 2) c) where
-    pub three-is : t₃ ≡ puts_at t j i k (a ∷ b ∷ c ∷ [])
-    unfolding puts_at
-    three-is = let e : k + 2 ≡ suc (suc k) = omega arith in r ∙ rw (q, p, e, add-one k)
-
-    pub four_is : (d : ℕ) (t₄ : List ℕ) → t₄ ≡ put_in t₃ (section_in table_sections j) i (k + 3) d → t₄ ≡ puts_at t j i k (a ∷ b ∷ c ∷ d ∷ [])
-    unfolding puts_at
-    four_is d t₄ s =
-        let e : k + 2 ≡ suc (suc k) = omega arith in
-        let f : k + 3 ≡ suc (suc (suc k)) = omega arith in
-        s ∙ rw (r, q, p, f, e, add-one k)
-
-pub ruleset twos = (two_is, rules)
-
-pub ruleset threes = (three-is, rules)
-
-pub ruleset fours = (four_is, rules)
 
 -- numbers, and then further ones
 pub puts-on : (t : List ℕ) (j i k : ℕ) (xs ys : List ℕ) → puts_at t j i k (xs ++ ys) ≡ puts_at (puts_at t j i k xs) j i (k + length xs) ys
@@ -61,37 +39,28 @@ unfolding rows_in
 length-rows t j [] = refl
 length-rows t j (r ∷ rs) = length-rows (row_in t j r) j rs ∙ length-row t j r
 
--- one zero more
-zeros-on : (n : ℕ) → ◌≡◌ {A = List ℕ} (replicate (n + 1) 0) (replicate n 0 ++ (0 ∷ []))
-zeros-on zero = refl
-zeros-on (suc n) = let e : suc n + 1 ≡ suc (n + 1) = omega arith in rw e (ap (λ l. 0 ∷ l) (zeros-on n))
-
--- n zeros of m are put
-pub record Zeroing (t : List ℕ) (j i k m n : ℕ) (u : List ℕ) : Type 0 where
-  pub within : n ≤ m
+-- the first n numbers of vs are put
+pub record Putting (t : List ℕ) (j i k : ℕ) (vs : List ℕ) (n : ℕ) (u : List ℕ) : Type 0 where
   pub long : length u ≡ length t
-  pub is : u ≡ puts_at t j i k (replicate n 0)
+  pub is : u ≡ puts_at t j i k (take n vs)
 
-module _ (t : List ℕ) (j i k m : ℕ) where
-  pub zeroing-start : Zeroing t j i k m 0 t
+module _ (t : List ℕ) (j i k : ℕ) (vs : List ℕ) where
+  pub putting-start : Putting t j i k vs 0 t
   unfolding puts_at
-  zeroing-start = record { within = omega arith; long = refl; is = refl }
+  putting-start = record { long = refl; is = refl }
 
-  pub zeroing-on : (n : ℕ) (u w : List ℕ) → Zeroing t j i k m n u → n < m → w ≡ put_in u (section_in table_sections j) i (k + n) 0 → Zeroing t j i k m (n + 1) w
+  pub putting-on : (n : ℕ) (u w : List ℕ) → Putting t j i k vs n u → n < length vs → w ≡ put_in u (section_in table_sections j) i (k + n) (get_or vs n 0) → Putting t j i k vs (n + 1) w
   unfolding puts_at
-  zeroing-on n u w z h q =
-      record {
-        within = omega arith;
-        long = ap length q ∙ length-put u (section_in table_sections j) i (k + n) 0 ∙ z.long;
-        is =
-            let e : k + n ≡ k + length (replicate {A = ℕ} n 0) = ap (λ l. k + l) (sym (length-replicate n 0)) in
-            q ∙ rw (z.is, e) (sym (rw (zeros-on n) (puts-on t j i k (replicate n 0) (0 ∷ []))));
-      }
+  putting-on n u w z h q =
+      let l : length (take n vs) ≡ n = length-take-le n vs (omega arith) in
+      let e : take (n + 1) vs ≡ take n vs ++ (get_or vs n 0 ∷ []) = rw (add-one n) (take-suc vs n 0 h) in
+      let a : puts_at t j i k (take (n + 1) vs) ≡ put_in (puts_at t j i k (take n vs)) (section_in table_sections j) i (k + n) (get_or vs n 0) = rw (e, puts-on t j i k (take n vs) (get_or vs n 0 ∷ []), l) in
+      record { long = ap length q ∙ length-put u (section_in table_sections j) i (k + n) (get_or vs n 0) ∙ z.long; is = q ∙ rw z.is (sym a) }
 
-  pub zeroing-end : (n : ℕ) (u : List ℕ) → Zeroing t j i k m n u → m ≤ n → u ≡ puts_at t j i k (replicate m 0)
-  zeroing-end n u z h = let e : n ≡ m = omega (arith, z.within) in rw e at z.is
+  pub putting-end : (n : ℕ) (u : List ℕ) → Putting t j i k vs n u → length vs ≤ n → u ≡ puts_at t j i k vs
+  putting-end n u z h = z.is ∙ ap (puts_at t j i k) (take_all n vs h)
 
-pub ruleset zeroings = (zeroing-start, zeroing-on, zeroing-end, rules)
+pub ruleset puttings = (putting-start, putting-on, putting-end, rules)
 
 -- a record is opened and its numbers are put
 pub row_is : (j i : ℕ) (vs u u₁ u₂ : List ℕ) → i ≡ count_in u (section_in table_sections j) → u₁ ≡ opened u j → u₂ ≡ puts_at u₁ j i 0 vs → u₂ ≡ row_in u j vs

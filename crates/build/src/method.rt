@@ -1,16 +1,15 @@
 // The methods' rows: conversion, coefficients, verbal table.
 ghost use Rattle.std.specs.Prelude.{◌≡◌};
-ghost use Rattle.convert.specs.Told.{told_method};
 ghost use Rattle.rows.specs.Sections.{method};
 ghost use Rattle.grammar.specs.Move.{view_in};
 ghost use Rattle.tables.specs.Form as form;
-ghost use Rattle.build.specs.Build.{rows_below, is_below, number_cells, coefficients_in, conversion_of, coefficient_cells, fraction_row, table_number, verbal_row, method_row};
+ghost use Rattle.build.specs.Build.{rows_below, number_cells, conversion_of, coefficient_cells, fraction_row, table_number, verbal_row, method_row};
 ghost use Rattle.build.specs.Row.{puts_at, row_in, rows_in};
 
-use crate::part::{flag_of, number_of};
-use crate::row::{open_row, put_two, put_zeros};
+use crate::part::number_of;
+use crate::row::{open_row, put_numbers, put_row};
 use cell::size::size;
-use convert::method::{Coefficients, MethodAnswer, identical};
+use convert::method::{Coefficients, identical};
 use grammar::names::find;
 use grammar::view::{METHOD, TABLE, count_of, slot_of};
 use methods::coefficients_of;
@@ -18,20 +17,11 @@ use rows::slots::{COMPU_TAB_REF, COMPU_TAB_REF_PAST, CONVERSION_TYPE};
 use tables::form::put_slot;
 use words::codes::{IDENTICAL, LINEAR, RAT_FUNC, TAB_VERB};
 
-// Whether a number is below zero.
-fn is_below(z: i64) -> bool
-    ensures { result ≡ is_below z }
-{
-    z < 0
-}
-
 // A whole number's two cells into method m from slot k on.
 fn put_whole(u: &mut [u64], m: u16, k: u8, z: i64)
     ensures { u.new ≡ puts_at u.old form.method_section m k (number_cells z) }
 {
-    let sign = flag_of(is_below(z));
-    let most = size(z);
-    put_two(u, tables::form::METHOD, m, k, sign, most);
+    put_numbers(u, tables::form::METHOD, m, k, &[u64::from(z < 0), size(z)]);
 }
 
 // The coefficients into method m.
@@ -42,16 +32,6 @@ fn put_coefficients(u: &mut [u64], m: u16, k: Coefficients)
     put_whole(u, m, 3, k.c);
     put_whole(u, m, 5, k.e);
     put_whole(u, m, 7, k.f);
-}
-
-// The coefficients that there are.
-fn whole_of(a: MethodAnswer) -> Coefficients
-    ensures { result ≡ coefficients_in (told_method a) }
-{
-    match a {
-        MethodAnswer::Whole(k) => k,
-        MethodAnswer::Refused { no: _ } => identical(),
-    }
 }
 
 // IDENTICAL, LINEAR or RAT_FUNC.
@@ -73,7 +53,7 @@ fn put_fraction(u: &mut [u64], t: &[u64], i: u16)
     ensures { u.new ≡ row_in u.old form.method_section (fraction_row (view_in t.now) i) }
 {
     let conversion = conversion_of(t, i);
-    let k = whole_of(coefficients_of(t, i));
+    let k = coefficients_of(t, i).unwrap_or(identical());
     let m = open_row(u, tables::form::METHOD);
     put_slot(u, tables::form::METHOD, m, 0, conversion);
     put_coefficients(u, m, k);
@@ -93,10 +73,11 @@ fn table_number(x: &[u8], t: &[u64], i: u16) -> u64
 fn put_verbal(u: &mut [u64], table: u64)
     ensures { u.new ≡ row_in u.old form.method_section (verbal_row table) }
 {
-    let m = open_row(u, tables::form::METHOD);
-    put_slot(u, tables::form::METHOD, m, 0, TAB_VERB as u64);
-    put_zeros(u, tables::form::METHOD, m, 1, 8);
-    put_slot(u, tables::form::METHOD, m, 9, table);
+    put_row(
+        u,
+        tables::form::METHOD,
+        &[TAB_VERB as u64, 0, 0, 0, 0, 0, 0, 0, 0, table],
+    );
 }
 
 // The row of method i.
@@ -116,10 +97,7 @@ fn put_method(u: &mut [u64], x: &[u8], t: &[u64], i: u16)
 pub fn put_methods(u: &mut [u64], x: &[u8], t: &[u64])
     ensures { u.new ≡ rows_in u.old form.method_section (rows_below ((view_in t.now).counts method) (method_row x.now (view_in t.now))) }
 {
-    let count = count_of(t, METHOD);
-    let mut i: u16 = 0;
-    while i < count {
+    for i in 0..count_of(t, METHOD) {
         put_method(u, x, t, i);
-        i += 1;
     }
 }

@@ -6,7 +6,7 @@ ghost use Rattle.tables.specs.Form as form;
 ghost use Rattle.build.specs.Build.{rows_below, type_of, what_of, object_row};
 ghost use Rattle.build.specs.Row.{row_in, rows_in};
 
-use crate::row::put_row_of_three;
+use crate::row::put_row;
 use grammar::view::{OBJECT, count_of, slot_of};
 use rows::slots::{BLOCK_CODE, OBJECT_TYPE, OWN_NAME, OWN_NAME_PAST};
 use words::codes::{AXIS_PTS, CHARACTERISTIC, CURVE, MAP, MEASUREMENT, VAL_BLK, VALUE};
@@ -48,17 +48,14 @@ fn put_object(u: &mut [u64], t: &[u64], i: u16)
     let from = slot_of(t, OBJECT, i, OWN_NAME);
     let to = slot_of(t, OBJECT, i, OWN_NAME_PAST);
     let what = what_of(t, i);
-    put_row_of_three(u, tables::form::OBJECT, from, to, what);
+    put_row(u, tables::form::OBJECT, &[from, to, what]);
 }
 
 // The rows of all objects.
 pub fn put_objects(u: &mut [u64], t: &[u64])
     ensures { u.new ≡ rows_in u.old form.object_section (rows_below ((view_in t.now).counts object) (object_row (view_in t.now))) }
 {
-    let count = count_of(t, OBJECT);
-    let mut i: u16 = 0;
-    while i < count {
+    for i in 0..count_of(t, OBJECT) {
         put_object(u, t, i);
-        i += 1;
     }
 }

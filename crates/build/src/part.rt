@@ -1,14 +1,14 @@
 // One part of an object: where it stands, and what its numbers mean.
-ghost use Rattle.std.specs.Prelude.{◌≡◌, false, [], ◌∷◌, ◌++◌, ◌-◌};
+ghost use Rattle.std.specs.Prelude.{◌≡◌, false, [], ◌∷◌, ◌++◌};
 ghost use Rattle.number.specs.Told.{scaled};
 ghost use Rattle.grammar.specs.Move.{view_in};
 ghost use Rattle.grammar.specs.Parameter.{found_at};
 ghost use Rattle.tables.specs.Form.{group_section, kind_cell, method_cell, lower_cell, counter_cell};
-ghost use Rattle.build.specs.Build.{flag, method_number, method_in, forbids, decimal_cells, limit_cells, meaning, standing_cells, counter_cells, no_part_cells};
+ghost use Rattle.build.specs.Build.{method_number, method_in, forbids, decimal_cells, limit_cells, meaning, standing_cells, counter_cells, no_part_cells};
 ghost use Rattle.build.specs.Row.{puts_at, row_in};
 
-use crate::row::{open_row, put_four, put_three, put_two, put_zeros};
-use grammar::names::{Found, find};
+use crate::row::{open_row, put_numbers, put_row};
+use grammar::names::find;
 use grammar::view::{METHOD, decimal_slots, slot_of};
 use number::decimal::Decimal;
 use place::order::{Entry, Layout};
@@ -49,28 +49,11 @@ pub struct Spot {
     pub walk: u64,
 }
 
-// A flag as a number.
-pub fn flag_of(b: bool) -> u64
-    ensures { result ≡ flag b }
-{
-    if b { 1 } else { 0 }
-}
-
-// What is left of a, where b is taken away.
-pub fn minus(a: u64, b: u64) -> u64
-    ensures { result ≡ a - b }
-{
-    if a < b { 0 } else { a - b }
-}
-
 // The number of what was found and one more, 0 where nothing was.
-pub fn number_of(f: Found) -> u64
+pub fn number_of(f: Option<u16>) -> u64
     ensures { result ≡ found_at f }
 {
-    match f {
-        Found::At(i) => (i as u64) + 1,
-        Found::Nothing => 0,
-    }
+    f.map_or(0, |i| u64::from(i) + 1)
 }
 
 // The number of the method that the name from a up to e leads to.
@@ -98,15 +81,15 @@ fn forbids_in(t: &[u64], s: Source, forbidden: bool) -> u64
     ensures { result ≡ forbids (view_in t.now) s forbidden }
 {
     let only = slot_of(t, s.sec, s.number, s.only as u16);
-    flag_of(forbidden | (only != 0))
+    u64::from(forbidden | (only != 0))
 }
 
 // A decimal's three numbers into group g from slot k on.
 fn put_decimal(u: &mut [u64], g: u16, k: u8, d: Decimal)
     ensures { u.new ≡ puts_at u.old group_section g k (decimal_cells (scaled d)) }
 {
-    let sign = flag_of(d.negative);
-    put_three(u, GROUP, g, k, sign, d.whole, d.tens as u64);
+    let numbers = [u64::from(d.negative), d.whole, u64::from(d.tens)];
+    put_numbers(u, GROUP, g, k, &numbers);
 }
 
 // A source's limits.
@@ -125,7 +108,7 @@ fn put_meaning(u: &mut [u64], x: &[u8], t: &[u64], g: u16, s: Source, mask: u64,
 {
     let method = method_in(x, t, s);
     let only = forbids_in(t, s, forbidden);
-    put_three(u, GROUP, g, 8, method, mask, only);
+    put_numbers(u, GROUP, g, 8, &[method, mask, only]);
     put_limits(u, t, g, s);
 }
 
@@ -133,11 +116,16 @@ fn put_meaning(u: &mut [u64], x: &[u8], t: &[u64], g: u16, s: Source, mask: u64,
 fn put_standing(u: &mut [u64], g: u16, p: Spot)
     ensures { u.new ≡ puts_at u.old group_section g kind_cell (standing_cells p.kind p.first p.place p.cx p.cy p.walk) }
 {
-    let first = flag_of(p.first);
-    let cx = p.cx as u64;
-    let cy = p.cy as u64;
-    put_four(u, GROUP, g, 0, p.kind, first, p.place, cx);
-    put_four(u, GROUP, g, 4, cy, cx, cy, p.walk);
+    let first = u64::from(p.first);
+    let cx = u64::from(p.cx);
+    let cy = u64::from(p.cy);
+    put_numbers(
+        u,
+        GROUP,
+        g,
+        0,
+        &[p.kind, first, p.place, cx, cy, cx, cy, p.walk],
+    );
 }
 
 // A stored count's data type and place.
@@ -145,18 +133,17 @@ fn put_counter(u: &mut [u64], g: u16, e: Entry, place: u64)
     ensures { u.new ≡ puts_at u.old group_section g counter_cell (counter_cells e place) }
 {
     if e.present {
-        put_two(u, GROUP, g, 17, e.kind, place);
-        return;
+        put_numbers(u, GROUP, g, 17, &[e.kind, place]);
+    } else {
+        put_numbers(u, GROUP, g, 17, &[0, 0]);
     }
-    put_two(u, GROUP, g, 17, 0, 0);
 }
 
 // A part that the object does not store.
 pub fn put_none(u: &mut [u64])
     ensures { u.new ≡ row_in u.old group_section no_part_cells }
 {
-    let g = open_row(u, GROUP);
-    put_zeros(u, GROUP, g, 0, 19);
+    put_row(u, GROUP, &[0; 19]);
 }
 
 // An axis that the object stores.
@@ -184,5 +171,5 @@ pub fn put_values(
     let g = open_row(u, GROUP);
     put_standing(u, g, p);
     put_meaning(u, x, t, g, s, mask, forbidden);
-    put_zeros(u, GROUP, g, 17, 2);
+    put_numbers(u, GROUP, g, 17, &[0, 0]);
 }

@@ -7,7 +7,7 @@ ghost use Rattle.build.specs.Build.{of_object, of_axis, x_source, values_walk, m
 ghost use Rattle.build.specs.Row.{row_in, rows_in, axis_spot};
 
 use build::object::what_of;
-use build::part::{Known, Source, Spot, flag_of, minus, put_axis, put_none, put_values};
+use build::part::{Known, Source, Spot, put_axis, put_none, put_values};
 use grammar::view::{AXIS, LAYOUT, OBJECT, count_of, slot_of};
 use objects::basis::basis_of;
 use objects::ground::first_of;
@@ -115,8 +115,8 @@ fn axis_spot(
     ensures { result ≡ axis_spot (view_in t.now) kind first place base cx l k }
 {
     let mode = slot_of(t, LAYOUT, l, k);
-    let walk = flag_of(mode == (INDEX_DECR as u64));
-    let at = minus(place, base as u64);
+    let walk = u64::from(mode == (INDEX_DECR as u64));
+    let at = place.saturating_sub(base as u64);
     Spot {
         kind,
         first,
@@ -149,7 +149,7 @@ fn put_x(u: &mut [u64], x: &[u8], t: &[u64], base: u32, i: u16, o: Known)
             AXIS_PTS_X_ORDER,
         );
         let source = x_source(t, i);
-        let at = minus(p.nx, base as u64);
+        let at = p.nx.saturating_sub(base as u64);
         put_axis(u, x, t, spot, source, counter, at);
         return;
     }
@@ -178,7 +178,7 @@ fn put_y(u: &mut [u64], x: &[u8], t: &[u64], base: u32, i: u16, o: Known)
             AXIS_PTS_Y_ORDER,
         );
         let source = of_axis(axis_at(t, i, 1));
-        let at = minus(p.ny, base as u64);
+        let at = p.ny.saturating_sub(base as u64);
         put_axis(u, x, t, spot, source, counter, at);
         return;
     }
@@ -193,7 +193,7 @@ fn values_spot(t: &[u64], i: u16, base: u32, o: Known) -> Spot
     let entry = layout.values;
     let p = o.places;
     let walk = values_walk(t, i, o.number);
-    let at = minus(p.values, base as u64);
+    let at = p.values.saturating_sub(base as u64);
     Spot {
         kind: entry.kind,
         first: o.first,
@@ -240,11 +240,8 @@ fn put_parts(u: &mut [u64], x: &[u8], t: &[u64], base: u32, i: u16, o: Known)
 pub fn put_groups(u: &mut [u64], image: &[u8], base: u32, x: &[u8], t: &[u64])
     ensures { u.new ≡ rows_in u.old group_section (groups_below image.now base x.now (view_in t.now) ((view_in t.now).counts object)) }
 {
-    let count = count_of(t, OBJECT);
-    let mut i: u16 = 0;
-    while i < count {
+    for i in 0..count_of(t, OBJECT) {
         let o = known_of(image, base, x, t, i);
         put_parts(u, x, t, base, i, o);
-        i += 1;
     }
 }

@@ -13,7 +13,7 @@ ghost use Rattle.build.specs.Row.{row_in};
 use crate::group::put_groups;
 use build::method::put_methods;
 use build::object::put_objects;
-use build::row::put_row_of_three;
+use build::row::put_row;
 use build::table::{put_entries, put_tables};
 use tables::form::HEAD;
 use tables::setting::Setting;
@@ -22,7 +22,7 @@ use tables::setting::Setting;
 fn put_head(u: &mut [u64], edition: u32, elements: u32)
     ensures { u.new ≡ row_in u.old head_section (edition ∷ 0 ∷ elements ∷ []) }
 {
-    put_row_of_three(u, HEAD, edition as u64, 0, elements as u64);
+    put_row(u, HEAD, &[edition as u64, 0, elements as u64]);
 }
 
 // Fills the tables, which are zeros, with the edition and with what calls need of the records t and of where the objects stand.

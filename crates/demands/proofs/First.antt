@@ -19,7 +19,7 @@ use Rattle.number.specs.Answer as number
 use Rattle.tables.specs.declared.setting.Setting.{Setting}
 use Rattle.tables.specs.Form.{object_section, tables_in}
 use Rattle.load.specs.Load.{loaded, loaded_of}
-use Rattle.load.specs.declared.LoadAnswer.{LoadAnswer}
+use Rattle.text.specs.declared.cursor.Refusal as text
 use Rattle.look.specs.Calls.{Lent, searched, reading, Kept, making, Request, writing}
 use Rattle.look.specs.Told.{told_search, told_read, after}
 use Rattle.look.specs.declared.search.SearchAnswer.{SearchAnswer}
@@ -40,7 +40,7 @@ use Rattle.refusals.proofs.Refusing as refusing
 use Rattle.demands.proofs.Telling as telling
 
 -- "Each public call's promise leaves one result and one content of lent memory per input, refusals too": two outcomes of one call are the same
-pub one-load : (x image : List ℕ) (setting : Setting) (tables work : List ℕ) (r s : LoadAnswer) (t u w v : List ℕ)
+pub one-load : (x image : List ℕ) (setting : Setting) (tables work : List ℕ) (r s : Result (Unit {0}) text.Refusal) (t u w v : List ℕ)
     → loaded_of r t w ≡ loaded x image setting tables work → loaded_of s u v ≡ loaded x image setting tables work → (r ≡ s) × (t ≡ u) × (w ≡ v)
 one-load = ones.load_one
 

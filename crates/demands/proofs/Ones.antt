@@ -4,12 +4,12 @@
 use Prim.Native.Nat.{ℕ}
 use mathlib.Core.Path.{◌≡◌, refl, sym, ◌∙◌, ap}
 use mathlib.Core.List.{List}
+use Rattle.std.specs.Prelude.{Result, Ok, Err}
+use Rattle.text.specs.declared.cursor.Refusal.{Refusal}
 use Rattle.text.specs.Answer as text
 use Rattle.number.specs.Answer as number
 use Rattle.tables.specs.declared.setting.Setting.{Setting}
 use Rattle.load.specs.Load.{Loaded, loaded, loaded_of}
-use Rattle.load.specs.declared.LoadAnswer.{LoadAnswer}
-use Rattle.load.specs.declared.LoadAnswer.TheVariants as load
 use Rattle.look.specs.Calls.{Kept}
 use Rattle.listing.specs.Listing.{Listed, listing, printing, listed_of}
 use Rattle.listing.specs.declared.listing.ListingAnswer.{ListingAnswer}
@@ -20,24 +20,24 @@ use Rattle.look.specs.Calls.{Lent, searched, reading, After}
 use Rattle.numbers.specs.Numbers.{LoadCall, load_call, load_told, find_number, ReadCall, read_call, read_told, ListCall, list_call, list_told, ListingCall, listing_call, listing_told}
 
 -- which answer it was
-abbrev load_answer : text.Answer (Unit {0}) → LoadAnswer
-load_answer (text.given u) = load.Accepted
-load_answer (text.refused n p) = load.Refused n p
+abbrev load_answer : text.Answer (Unit {0}) → Result (Unit {0}) Refusal
+load_answer (text.given u) = Ok u
+load_answer (text.refused n p) = Err (record { no = n; place = p })
 
-load-back : (r : LoadAnswer) (t w : List ℕ) → load_answer (loaded_of r t w).answer ≡ r
-load-back load.Accepted t w = refl
-load-back (load.Refused n p) t w = refl
+load-back : (r : Result (Unit {0}) Refusal) (t w : List ℕ) → load_answer (loaded_of r t w).answer ≡ r
+load-back (Ok u) t w = refl
+load-back (Err r) t w = refl
 
-tables-back : (r : LoadAnswer) (t w : List ℕ) → (loaded_of r t w).tables ≡ t
-tables-back load.Accepted t w = refl
-tables-back (load.Refused n p) t w = refl
+tables-back : (r : Result (Unit {0}) Refusal) (t w : List ℕ) → (loaded_of r t w).tables ≡ t
+tables-back (Ok u) t w = refl
+tables-back (Err r) t w = refl
 
-work-back : (r : LoadAnswer) (t w : List ℕ) → (loaded_of r t w).work ≡ w
-work-back load.Accepted t w = refl
-work-back (load.Refused n p) t w = refl
+work-back : (r : Result (Unit {0}) Refusal) (t w : List ℕ) → (loaded_of r t w).work ≡ w
+work-back (Ok u) t w = refl
+work-back (Err r) t w = refl
 
 -- a load that answers r and leaves t and w, and one that answers s and leaves u and v, are the same
-pub load_one : (x image : List ℕ) (setting : Setting) (tables work : List ℕ) (r s : LoadAnswer) (t u w v : List ℕ)
+pub load_one : (x image : List ℕ) (setting : Setting) (tables work : List ℕ) (r s : Result (Unit {0}) Refusal) (t u w v : List ℕ)
     → loaded_of r t w ≡ loaded x image setting tables work → loaded_of s u v ≡ loaded x image setting tables work → (r ≡ s) × (t ≡ u) × (w ≡ v)
 load_one x image setting tables work r s t u w v p q =
     let e : loaded_of r t w ≡ loaded_of s u v = p ∙ sym q in (

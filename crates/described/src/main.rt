@@ -3,7 +3,6 @@
 #![tactic(auto)]
 
 use engine::read::read;
-use grammar::state::ReadAnswer;
 use grammar::view::{AXIS, ENTRY, LAYOUT, METHOD, OBJECT, TABLE, count_of};
 use std::io;
 use std::io::Read;
@@ -54,8 +53,8 @@ fn print_described(rt: &impl Print, x: &[u8], n: usize) -> io::Result<()> {
     let mut t = [0u64; CELLS];
     rt.print(n)?;
     match read(x, &mut t) {
-        ReadAnswer::Accepted => print_accepted(rt, &t)?,
-        ReadAnswer::Refused { no, place } => print_refusal(rt, no, place)?,
+        Ok(()) => print_accepted(rt, &t)?,
+        Err(r) => print_refusal(rt, r.no, r.place)?,
     }
     rt.print("\n")
 }

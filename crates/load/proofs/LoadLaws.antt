@@ -8,6 +8,8 @@ use borrow.Author.Rules.{rules}
 use borrow.Author.Tests.{leb-true, le-ltb}
 use lib.Dec.{leb}
 use lib.ListN.{length, replicate, length-replicate}
+use Rattle.std.specs.Prelude.{Result, Ok, Err}
+use Rattle.text.specs.declared.cursor.Refusal.{Refusal}
 use Rattle.text.specs.Answer.{Answer, given, refused, with}
 use Rattle.records.specs.Cells.{room, encode}
 use Rattle.rows.specs.Sections as records
@@ -15,72 +17,66 @@ use Rattle.grammar.specs.Move.{View, view, view_in}
 use Rattle.grammar.specs.Out as reading
 use Rattle.grammar.specs.Out.{Out, accepted, refusing, out_of, read_into}
 use Rattle.grammar.specs.Read.{read}
-use Rattle.grammar.specs.declared.state.ReadAnswer as answer
-use Rattle.grammar.specs.declared.state.ReadAnswer.TheVariants as ended
 use Rattle.grammar.proofs.Cells.{view-encode}
 use Rattle.refer.specs.Refer.{referred}
 use Rattle.refer.specs.Refer as refers
-use Rattle.refer.specs.declared.Reference.{Reference}
-use Rattle.refer.specs.declared.Reference.TheVariants as reference
 use Rattle.methods.specs.Methods.{converts}
 use Rattle.methods.specs.Methods as methods
-use Rattle.methods.specs.declared.Converted.{Converted}
-use Rattle.methods.specs.declared.Converted.TheVariants as converted
 use Rattle.objects.specs.Stage.{judge_all, told_turn}
-use Rattle.objects.specs.declared.stage.Turn.{Turn}
-use Rattle.objects.specs.declared.stage.Turn.TheVariants as turn
 use Rattle.build.specs.Build.{built}
 use Rattle.convert.specs.Edition.{is_edition}
 use Rattle.tables.specs.Form.{table_sections}
 use Rattle.tables.specs.declared.setting.Setting.{Setting}
 use Rattle.tables.specs.Sizes.{sizes_fit}
 use Rattle.load.specs.Load.{described, left, loaded, loaded_of, judged_last, judged_all, filling, filled, filled_of}
-use Rattle.load.specs.declared.LoadAnswer.{LoadAnswer}
-use Rattle.load.specs.declared.LoadAnswer.TheVariants as variant
 use Rattle.load.proofs.ReadLaws.{never, read-good, length-read}
+
+-- nothing more, or a refusal
+abbrev pub Told : Type 0
+Told = Result (Unit {0}) Refusal
 
 module _ (image : List ℕ) (base : ℕ) (x : List ℕ) (v : View) where
   -- c is what `convert_all` gave
-  module _ (c : Converted) (p : methods.told_methods c ≡ converts v) where
-    pub last-fine : (r : Turn) → c ≡ converted.Fine → told_turn r ≡ judge_all image base x v → told_turn r ≡ judged_last image base x v
+  module _ (c : Told) (p : methods.told_methods c ≡ converts v) where
+    pub last-fine : (u : Unit {0}) (r : Result ℕ Refusal) → c ≡ Ok u → told_turn r ≡ judge_all image base x v → told_turn r ≡ judged_last image base x v
     unfolding judged_last
-    last-fine r y q =
+    last-fine u r y q =
         let e : given tt ≡ converts v = ap methods.told_methods (sym y) ∙ p in
         q ∙ ap (λ (a : Answer (Unit {0})). with a (λ _. judge_all image base x v)) e
 
-    pub last-refused : (n m : ℕ) → c ≡ converted.Refused n m → refused n m ≡ judged_last image base x v
+    pub last-refused : (d : Refusal) → c ≡ Err d → refused d.no d.place ≡ judged_last image base x v
     unfolding judged_last
-    last-refused n m y =
-        let e : refused n m ≡ converts v = ap methods.told_methods (sym y) ∙ p in
+    last-refused d y =
+        let e : refused d.no d.place ≡ converts v = ap methods.told_methods (sym y) ∙ p in
         ap (λ (a : Answer (Unit {0})). with a (λ _. judge_all image base x v)) e
 
   -- f is what `refer_all` gave
-  module _ (f : Reference) (p : refers.told_reference f ≡ referred x v) where
-    pub all-fine : (r : Turn) → f ≡ reference.Fine → told_turn r ≡ judged_last image base x v → told_turn r ≡ judged_all image base x v
+  module _ (f : Told) (p : refers.told_reference f ≡ referred x v) where
+    pub all-fine : (u : Unit {0}) (r : Result ℕ Refusal) → f ≡ Ok u → told_turn r ≡ judged_last image base x v → told_turn r ≡ judged_all image base x v
     unfolding judged_all
-    all-fine r y q =
+    all-fine u r y q =
         let e : given tt ≡ referred x v = ap refers.told_reference (sym y) ∙ p in
         q ∙ ap (λ (a : Answer (Unit {0})). with a (λ _. judged_last image base x v)) e
 
-    pub all-refused : (n m : ℕ) → f ≡ reference.Refused n m → refused n m ≡ judged_all image base x v
+    pub all-refused : (d : Refusal) → f ≡ Err d → refused d.no d.place ≡ judged_all image base x v
     unfolding judged_all
-    all-refused n m y =
-        let e : refused n m ≡ referred x v = ap refers.told_reference (sym y) ∙ p in
+    all-refused d y =
+        let e : refused d.no d.place ≡ referred x v = ap refers.told_reference (sym y) ∙ p in
         ap (λ (a : Answer (Unit {0})). with a (λ _. judged_last image base x v)) e
 
 -- r is what `judge_records` gave, and t the tables
-module _ (image : List ℕ) (s : Setting) (x : List ℕ) (v : View) (r : Turn) (p : told_turn r ≡ judged_all image s.base x v) (t : List ℕ) where
-  pub fill-accepted : (n : ℕ) (w : List ℕ) → r ≡ turn.Total n → w ≡ encode table_sections (length t) (built image s x v n) → accepted w ≡ filled (length t) (filling image s x v)
+module _ (image : List ℕ) (s : Setting) (x : List ℕ) (v : View) (r : Result ℕ Refusal) (p : told_turn r ≡ judged_all image s.base x v) (t : List ℕ) where
+  pub fill-accepted : (n : ℕ) (w : List ℕ) → r ≡ Ok n → w ≡ encode table_sections (length t) (built image s x v n) → accepted w ≡ filled (length t) (filling image s x v)
   unfolding filling
   fill-accepted n w y q =
       let e : given n ≡ judged_all image s.base x v = ap told_turn (sym y) ∙ p in
       ap accepted q ∙ ap (λ (a : Answer ℕ). filled (length t) (with a (λ k. given (built image s x v k)))) e
 
-  pub fill-refused : (n m : ℕ) → r ≡ turn.Refused n m → t ≡ replicate (length t) 0 → refusing n m t ≡ filled (length t) (filling image s x v)
+  pub fill-refused : (d : Refusal) → r ≡ Err d → t ≡ replicate (length t) 0 → refusing d.no d.place t ≡ filled (length t) (filling image s x v)
   unfolding filling
-  fill-refused n m y q =
-      let e : refused n m ≡ judged_all image s.base x v = ap told_turn (sym y) ∙ p in
-      ap (refusing n m) q ∙ ap (λ (a : Answer ℕ). filled (length t) (with a (λ k. given (built image s x v k)))) e
+  fill-refused d y q =
+      let e : refused d.no d.place ≡ judged_all image s.base x v = ap told_turn (sym y) ∙ p in
+      ap (refusing d.no d.place) q ∙ ap (λ (a : Answer ℕ). filled (length t) (with a (λ k. given (built image s x v k)))) e
 
 pub ruleset lasts = (last-fine, last-refused, rules)
 
@@ -114,22 +110,22 @@ unfolding read_into
 into-is x w h = rw (le-ltb (length w) (room records.sections) h)
 
 -- what the tables hold, and work that was cleared
-with-work : (n k : ℕ) (a : LoadAnswer) (t : List ℕ) (r : Answer (List (List (List ℕ)))) → filled_of a t ≡ filled n r → loaded_of a t (replicate k 0) ≡ left n k r
+with-work : (n k : ℕ) (a : Told) (t : List ℕ) (r : Answer (List (List (List ℕ)))) → filled_of a t ≡ filled n r → loaded_of a t (replicate k 0) ≡ left n k r
 with-work n k a t (given d) p = by_answer a p where
-  by_answer : (a : LoadAnswer) → filled_of a t ≡ accepted (encode table_sections n d) → loaded_of a t (replicate k 0) ≡ record { answer = given tt; tables = encode table_sections n d; work = replicate k 0 }
-  by_answer variant.Accepted q = ap (λ (o : Out). record { answer = o.answer; tables = o.cells; work = replicate k 0 }) q
-  by_answer (variant.Refused i j) q = ap (λ (o : Out). record { answer = o.answer; tables = o.cells; work = replicate k 0 }) q
+  by_answer : (a : Told) → filled_of a t ≡ accepted (encode table_sections n d) → loaded_of a t (replicate k 0) ≡ record { answer = given tt; tables = encode table_sections n d; work = replicate k 0 }
+  by_answer (Ok u) q = ap (λ (o : Out). record { answer = o.answer; tables = o.cells; work = replicate k 0 }) q
+  by_answer (Err r) q = ap (λ (o : Out). record { answer = o.answer; tables = o.cells; work = replicate k 0 }) q
 with-work n k a t (refused i j) p = by_answer a p where
-  by_answer : (a : LoadAnswer) → filled_of a t ≡ refusing i j (replicate n 0) → loaded_of a t (replicate k 0) ≡ record { answer = refused i j; tables = replicate n 0; work = replicate k 0 }
-  by_answer variant.Accepted q = ap (λ (o : Out). record { answer = o.answer; tables = o.cells; work = replicate k 0 }) q
-  by_answer (variant.Refused m l) q = ap (λ (o : Out). record { answer = o.answer; tables = o.cells; work = replicate k 0 }) q
+  by_answer : (a : Told) → filled_of a t ≡ refusing i j (replicate n 0) → loaded_of a t (replicate k 0) ≡ record { answer = refused i j; tables = replicate n 0; work = replicate k 0 }
+  by_answer (Ok u) q = ap (λ (o : Out). record { answer = o.answer; tables = o.cells; work = replicate k 0 }) q
+  by_answer (Err r) q = ap (λ (o : Out). record { answer = o.answer; tables = o.cells; work = replicate k 0 }) q
 
 -- t₁ are the cleared tables; r is what `read` gave, and w₁ what it left
-module _ (image : List ℕ) (s : Setting) (x t t₁ w w₁ : List ℕ) (h : room records.sections ≤ length w) (z : t₁ ≡ replicate (length t) 0) (r : answer.ReadAnswer) (p : out_of r w₁ ≡ read_into x w) where
+module _ (image : List ℕ) (s : Setting) (x t t₁ w w₁ : List ℕ) (h : room records.sections ≤ length w) (z : t₁ ≡ replicate (length t) 0) (r : Told) (p : out_of r w₁ ≡ read_into x w) where
   -- a is what `fill` gave, t₂ what it left, and w₂ is work, cleared
-  pub into-accepted : (a : LoadAnswer) (t₂ w₂ : List ℕ) → r ≡ ended.Accepted → filled_of a t₂ ≡ filled (length t₁) (filling image s x (view_in w₁)) → w₂ ≡ replicate (length w₁) 0
+  pub into-accepted : (u : Unit {0}) (a : Told) (t₂ w₂ : List ℕ) → r ≡ Ok u → filled_of a t₂ ≡ filled (length t₁) (filling image s x (view_in w₁)) → w₂ ≡ replicate (length w₁) 0
       → loaded_of a t₂ w₂ ≡ left (length t) (length w) (described image s x)
-  into-accepted a t₂ w₂ y q g = by_read (read x) refl (sym (ap (λ (k : answer.ReadAnswer). out_of k w₁) y) ∙ p ∙ into-is x w h) where
+  into-accepted b a t₂ w₂ y q g = by_read (read x) refl (sym (ap (λ (k : Told). out_of k w₁) y) ∙ p ∙ into-is x w h) where
     by_read : (b : Answer (List (List (List ℕ)))) → read x ≡ b → accepted w₁ ≡ reading.left (length w) b → loaded_of a t₂ w₂ ≡ left (length t) (length w) (described image s x)
     by_read (given d) e o =
         let c : w₁ ≡ encode records.sections (length w) d = ap (λ (k : Out). k.cells) o in
@@ -142,14 +138,14 @@ module _ (image : List ℕ) (s : Setting) (x t t₁ w w₁ : List ℕ) (h : room
         ∙ ap (left (length t) (length w)) (sym (described-given image s x d e))
     by_read (refused k m) e o = absurd (never k m tt (sym (ap (λ (i : Out). i.answer) o)))
 
-  pub into-refused : (n m : ℕ) → r ≡ ended.Refused n m → loaded_of (variant.Refused n m) t₁ w₁ ≡ left (length t) (length w) (described image s x)
-  into-refused n m y = by_read (read x) refl (sym (ap (λ (k : answer.ReadAnswer). out_of k w₁) y) ∙ p ∙ into-is x w h) where
-    by_read : (b : Answer (List (List (List ℕ)))) → read x ≡ b → refusing n m w₁ ≡ reading.left (length w) b → loaded_of (variant.Refused n m) t₁ w₁ ≡ left (length t) (length w) (described image s x)
-    by_read (given d) e o = absurd (never n m tt (ap (λ (i : Out). i.answer) o))
-    by_read (refused k j) e o =
-        ap (λ (c : List ℕ). loaded_of (variant.Refused n m) c w₁) z
+  pub into-refused : (e : Refusal) → r ≡ Err e → loaded_of (Err e) t₁ w₁ ≡ left (length t) (length w) (described image s x)
+  into-refused e y = by_read (read x) refl (sym (ap (λ (k : Told). out_of k w₁) y) ∙ p ∙ into-is x w h) where
+    by_read : (b : Answer (List (List (List ℕ)))) → read x ≡ b → refusing e.no e.place w₁ ≡ reading.left (length w) b → loaded_of (Err e) t₁ w₁ ≡ left (length t) (length w) (described image s x)
+    by_read (given d) h o = absurd (never e.no e.place tt (ap (λ (i : Out). i.answer) o))
+    by_read (refused k j) h o =
+        ap (λ (c : List ℕ). loaded_of (Err e) c w₁) z
         ∙ ap (λ (i : Out). record { answer = i.answer; tables = replicate (length t) 0; work = i.cells }) o
-        ∙ ap (left (length t) (length w)) (sym (described-refused image s x k j e))
+        ∙ ap (left (length t) (length w)) (sym (described-refused image s x k j h))
 
 -- the cleared tables are zeros, and as long as before
 cleared-long : (t t₁ : List ℕ) → t₁ ≡ replicate (length t) 0 → length t₁ ≡ length t
@@ -191,17 +187,17 @@ module _ (x image t w : List ℕ) (s : Setting) (f : Bool) (p : f ≡ sizes_fit 
   pub work_fits : (f && leb 42578 (length w)) ≡ true → room records.sections ≤ length w
   work_fits h = rw work-room (leb-true 42578 (length w) (and_right f (leb 42578 (length w)) h))
 
-  pub load-short : (f && leb 42578 (length w)) ≡ false → loaded_of (variant.Refused 20 0) t w ≡ loaded x image s t w
+  pub load-short : (f && leb 42578 (length w)) ≡ false → loaded_of (Err (record { no = 20; place = 0 })) t w ≡ loaded x image s t w
   unfolding loaded
   load-short h = rw (← p, work-room, h)
 
   -- e is what `is_edition` gave
   module _ (h : (f && leb 42578 (length w)) ≡ true) (e : Bool) (q : e ≡ is_edition s.edition) where
-    pub load_fits : (a : LoadAnswer) (t₁ w₁ : List ℕ) → e ≡ true → loaded_of a t₁ w₁ ≡ left (length t) (length w) (described image s x) → loaded_of a t₁ w₁ ≡ loaded x image s t w
+    pub load_fits : (a : Told) (t₁ w₁ : List ℕ) → e ≡ true → loaded_of a t₁ w₁ ≡ left (length t) (length w) (described image s x) → loaded_of a t₁ w₁ ≡ loaded x image s t w
     unfolding loaded
     load_fits a t₁ w₁ y r = r ∙ rw (← p, work-room, h, ← q, y)
 
-    pub load-other : e ≡ false → loaded_of (variant.Refused 33 0) t w ≡ loaded x image s t w
+    pub load-other : e ≡ false → loaded_of (Err (record { no = 33; place = 0 })) t w ≡ loaded x image s t w
     unfolding loaded
     load-other y = rw (← p, work-room, h, ← q, y)
 

@@ -1,6 +1,7 @@
 -- The whole load.
-use Rattle.std.specs.Prelude.{ℕ, List, cond, ◌&&◌, length, replicate, leb}
+use Rattle.std.specs.Prelude.{ℕ, List, cond, ◌&&◌, length, replicate, leb, Result, Ok, Err}
 use Rattle.text.specs.Answer.{Answer, given, refused, with}
+use Rattle.text.specs.declared.cursor.Refusal.{Refusal}
 use Rattle.records.specs.Cells.{room, encode}
 use Rattle.rows.specs.Sections as records
 use Rattle.grammar.specs.Move.{View, view}
@@ -14,8 +15,6 @@ use Rattle.convert.specs.Edition.{is_edition}
 use Rattle.tables.specs.Form.{table_sections}
 use Rattle.tables.specs.declared.setting.Setting.{Setting}
 use Rattle.tables.specs.Sizes.{sizes_fit}
-use Rattle.load.specs.declared.LoadAnswer.{LoadAnswer}
-use Rattle.load.specs.declared.LoadAnswer.TheVariants as variant
 
 -- "Load order: .. the text from the start ..; then references in text order ..; then conversions; then each object's layout and mask (11), counts (12, 13),
 -- share of the element total (8), element bytes (12)": the tables' records, or the first refusal with its place.
@@ -49,10 +48,10 @@ loaded x image s tables work =
     (cond (is_edition s.edition) (left (length tables) (length work) (described image s x)) (untouched 33 tables work))
     (untouched 20 tables work)
 
--- what `LoadAnswer` answers, beside the lent cells
-abbrev pub loaded_of : LoadAnswer → List ℕ → List ℕ → Loaded
-loaded_of variant.Accepted t w = record { answer = given tt; tables = t; work = w }
-loaded_of (variant.Refused n p) t w = record { answer = refused n p; tables = t; work = w }
+-- what a load answers in the code, beside the lent cells
+abbrev pub loaded_of : Result (Unit {0}) Refusal → List ℕ → List ℕ → Loaded
+loaded_of (Ok u) t w = record { answer = given tt; tables = t; work = w }
+loaded_of (Err r) t w = record { answer = refused r.no r.place; tables = t; work = w }
 
 -- ---- the same in steps, for the functions that take them
 
@@ -72,6 +71,6 @@ abbrev pub filled : ℕ → Answer (List (List (List ℕ))) → Out
 filled n (given d) = accepted (encode table_sections n d)
 filled n (refused k p) = refusing k p (replicate n 0)
 
-abbrev pub filled_of : LoadAnswer → List ℕ → Out
-filled_of variant.Accepted t = accepted t
-filled_of (variant.Refused n p) t = refusing n p t
+abbrev pub filled_of : Result (Unit {0}) Refusal → List ℕ → Out
+filled_of (Ok u) t = accepted t
+filled_of (Err r) t = refusing r.no r.place t

@@ -12,21 +12,13 @@ ghost use Rattle.load.specs.Load.{judged_last, judged_all, filling, filled, fill
 use built::build;
 use convert::edition::is_edition;
 use engine::read::read;
-use grammar::state::ReadAnswer;
 use grammar::view::ROOM;
-use methods::{Converted, convert_all};
-use objects::stage::Turn;
-use refer::{Reference, refer_all};
+use methods::convert_all;
+use refer::refer_all;
 use tables::setting::Setting;
 use tables::sizes::sizes_fit;
+use text::cursor::Refusal;
 use turns::judge_all;
-
-// What a load answers: the tables are filled, or the first refusal's number and place.
-#[derive(Clone, Copy)]
-pub enum LoadAnswer {
-    Accepted,
-    Refused { no: u8, place: usize },
-}
 
 // A lent buffer is too short, text or image too long, or base plus image above 2^32.
 const SIZES: u8 = 20;
@@ -35,57 +27,57 @@ const SIZES: u8 = 20;
 const NO_EDITION: u8 = 33;
 
 // The conversions, then the objects.
-fn judge_last(image: &[u8], base: u32, x: &[u8], t: &[u64]) -> Turn
+fn judge_last(image: &[u8], base: u32, x: &[u8], t: &[u64]) -> Result<u32, Refusal>
     ensures { told_turn result ≡ judged_last image.now base x.now (view_in t.now) }
 {
-    match convert_all(t) {
-        Converted::Fine => judge_all(image, base, x, t),
-        Converted::Refused { no, place } => Turn::Refused { no, place },
-    }
+    convert_all(t)?;
+    judge_all(image, base, x, t)
 }
 
 // The references, the conversions, the objects.
-fn judge_records(image: &[u8], base: u32, x: &[u8], t: &[u64]) -> Turn
+fn judge_records(image: &[u8], base: u32, x: &[u8], t: &[u64]) -> Result<u32, Refusal>
     ensures { told_turn result ≡ judged_all image.now base x.now (view_in t.now) }
 {
-    match refer_all(x, t) {
-        Reference::Fine => judge_last(image, base, x, t),
-        Reference::Refused { no, place } => Turn::Refused { no, place },
-    }
+    refer_all(x, t)?;
+    judge_last(image, base, x, t)
 }
 
 // The records judged, and the tables, which are zeros, filled where all is well.
-fn fill(x: &[u8], image: &[u8], s: Setting, tables: &mut [u64], t: &[u64]) -> LoadAnswer
+fn fill(x: &[u8], image: &[u8], s: Setting, tables: &mut [u64], t: &[u64]) -> Result<(), Refusal>
     requires { (tables.old ≡ replicate (length tables.old) 0) × (room table_sections ≤ length tables.old) }
     ensures { filled_of result tables.new ≡ filled (length tables.old) (filling image.now s x.now (view_in t.now)) }
 {
-    match judge_records(image, s.base, x, t) {
-        Turn::Total(elements) => {
-            build(image, s, x, t, tables, elements);
-            LoadAnswer::Accepted
-        }
-        Turn::Refused { no, place } => LoadAnswer::Refused { no, place },
-    }
+    let elements = judge_records(image, s.base, x, t)?;
+    build(image, s, x, t, tables, elements);
+    Ok(())
 }
 
 // A load by an edition there is, into buffers that are long enough.
-fn load_into(x: &[u8], image: &[u8], s: Setting, tables: &mut [u64], work: &mut [u64]) -> LoadAnswer
+fn load_into(
+    x: &[u8],
+    image: &[u8],
+    s: Setting,
+    tables: &mut [u64],
+    work: &mut [u64],
+) -> Result<(), Refusal>
     requires { (room table_sections ≤ length tables.old) × (room records.sections ≤ length work.old) }
     ensures { loaded_of result tables.new work.new ≡ left (length tables.old) (length work.old) (described image.now s x.now) }
 {
     records::clear(tables);
-    match read(x, work) {
-        ReadAnswer::Accepted => {
-            let answer = fill(x, image, s, tables, work);
-            records::clear(work);
-            answer
-        }
-        ReadAnswer::Refused { no, place } => LoadAnswer::Refused { no, place },
-    }
+    read(x, work)?;
+    let answer = fill(x, image, s, tables, work);
+    records::clear(work);
+    answer
 }
 
 // Loads a description into tables; a refusal leaves tables and work zero, and 20 and 33 leave them untouched.
-pub fn load(x: &[u8], image: &[u8], s: Setting, tables: &mut [u64], work: &mut [u64]) -> LoadAnswer
+pub fn load(
+    x: &[u8],
+    image: &[u8],
+    s: Setting,
+    tables: &mut [u64],
+    work: &mut [u64],
+) -> Result<(), Refusal>
     ensures { loaded_of result tables.new work.new ≡ loaded x.now image.now s tables.old work.old }
 {
     let fits = sizes_fit(x.len(), image.len(), s.base, tables.len());
@@ -93,13 +85,13 @@ pub fn load(x: &[u8], image: &[u8], s: Setting, tables: &mut [u64], work: &mut [
         if is_edition(s.edition as u64) {
             return load_into(x, image, s, tables, work);
         }
-        return LoadAnswer::Refused {
+        return Err(Refusal {
             no: NO_EDITION,
             place: 0,
-        };
+        });
     }
-    LoadAnswer::Refused {
+    Err(Refusal {
         no: SIZES,
         place: 0,
-    }
+    })
 }

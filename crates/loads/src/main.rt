@@ -4,7 +4,7 @@
 
 use cases::{LF, PART_BYTES, SPACE, between, bytes_of, number_at, part_end, place_from};
 use convert::edition::EDITION_ONE;
-use load::{LoadAnswer, load};
+use load::load;
 use std::io;
 use std::io::Read;
 use tables::form::{ENTRY, HEAD, METHOD, OBJECT, TABLE, count_of, slot_of};
@@ -56,8 +56,8 @@ fn print_loaded(rt: &impl Print, x: &[u8], image: &[u8], base: u32, n: usize) ->
         edition: EDITION_ONE,
     };
     match load(x, image, s, &mut t, &mut work) {
-        LoadAnswer::Accepted => print_accepted(rt, &t)?,
-        LoadAnswer::Refused { no, place } => print_refusal(rt, no, place)?,
+        Ok(()) => print_accepted(rt, &t)?,
+        Err(r) => print_refusal(rt, r.no, r.place)?,
     }
     rt.print("\n")
 }

@@ -1,6 +1,7 @@
 -- Conversions: "then conversions", 10 at the method's name. Methods that nothing uses are judged too.
-use Rattle.std.specs.Prelude.{ℕ, zero, suc, cond, eqb}
+use Rattle.std.specs.Prelude.{ℕ, zero, suc, cond, eqb, Result, Ok, Err}
 use Rattle.text.specs.Answer as text
+use Rattle.text.specs.declared.cursor.Refusal.{Refusal}
 use Rattle.number.specs.Answer.{Answer, given}
 use Rattle.number.specs.Decimal.{Scaled}
 use Rattle.number.specs.Form.{is_given}
@@ -10,8 +11,6 @@ use Rattle.rows.specs.Codes.{LINEAR, RAT-FUNC}
 use Rattle.rows.specs.Sections.{method}
 use Rattle.rows.specs.Slots.{own_name, conversion_type, coeff_b, coeff_c, coeff_e, coeff_f, linear_a, linear_b}
 use Rattle.grammar.specs.Move.{View, decimal_slots}
-use Rattle.methods.specs.declared.Converted.{Converted}
-use Rattle.methods.specs.declared.Converted.TheVariants as variant
 
 -- the decimal in three slots of method i
 abbrev pub decimal_at : View → ℕ → ℕ → Scaled
@@ -39,7 +38,7 @@ converts_from (suc f) v i = cond (is_given (coefficients v i)) (converts_from f 
 abbrev pub converts : View → text.Answer (Unit {0})
 converts v = converts_from (v.counts method) v 0
 
--- what `Converted` answers
-abbrev pub told_methods : Converted → text.Answer (Unit {0})
-told_methods variant.Fine = text.given tt
-told_methods (variant.Refused n p) = text.refused n p
+-- what the code answers
+abbrev pub told_methods : Result (Unit {0}) Refusal → text.Answer (Unit {0})
+told_methods (Ok u) = text.given tt
+told_methods (Err r) = text.refused r.no r.place

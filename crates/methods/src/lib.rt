@@ -6,22 +6,16 @@ ghost use Rattle.convert.specs.Told.{told_method};
 ghost use Rattle.grammar.specs.Move.{view_in};
 ghost use Rattle.methods.specs.Methods.{linear_at, rat_func_at, coefficients, converts, told_methods};
 
-use convert::method::{MethodAnswer, identical, linear, rat_func};
+use convert::method::{Coefficients, NoConversion, identical, linear, rat_func};
 use grammar::view::{METHOD, count_of, decimal_slots, slot_of};
 use rows::slots::{
     COEFF_B, COEFF_C, COEFF_E, COEFF_F, CONVERSION_TYPE, LINEAR_A, LINEAR_B, OWN_NAME,
 };
+use text::cursor::Refusal;
 use words::codes::{LINEAR, RAT_FUNC};
 
-// Every method has its coefficients, or the refusal of the first that has none.
-#[derive(Clone, Copy)]
-pub enum Converted {
-    Fine,
-    Refused { no: u8, place: usize },
-}
-
 // The coefficients of a LINEAR method.
-fn linear_at(t: &[u64], i: u16) -> MethodAnswer
+fn linear_at(t: &[u64], i: u16) -> Result<Coefficients, NoConversion>
     ensures { told_method result ≡ linear_at (view_in t.now) i }
 {
     linear(
@@ -31,7 +25,7 @@ fn linear_at(t: &[u64], i: u16) -> MethodAnswer
 }
 
 // The coefficients of a RAT_FUNC method.
-fn rat_func_at(t: &[u64], i: u16) -> MethodAnswer
+fn rat_func_at(t: &[u64], i: u16) -> Result<Coefficients, NoConversion>
     ensures { told_method result ≡ rat_func_at (view_in t.now) i }
 {
     let b = decimal_slots(t, METHOD, i, COEFF_B);
@@ -42,7 +36,7 @@ fn rat_func_at(t: &[u64], i: u16) -> MethodAnswer
 }
 
 // The coefficients of method i.
-pub fn coefficients_of(t: &[u64], i: u16) -> MethodAnswer
+pub fn coefficients_of(t: &[u64], i: u16) -> Result<Coefficients, NoConversion>
     ensures { told_method result ≡ coefficients (view_in t.now) i }
 {
     let kind = slot_of(t, METHOD, i, CONVERSION_TYPE);
@@ -52,27 +46,20 @@ pub fn coefficients_of(t: &[u64], i: u16) -> MethodAnswer
     if kind == (RAT_FUNC as u64) {
         return rat_func_at(t, i);
     }
-    MethodAnswer::Whole(identical())
+    Ok(identical())
 }
 
-// Judges every method of the records.
-pub fn convert_all(t: &[u64]) -> Converted
+// Judges every method of the records: every one has its coefficients, or the refusal of the first that has none.
+pub fn convert_all(t: &[u64]) -> Result<(), Refusal>
     ensures { told_methods result ≡ converts (view_in t.now) }
 {
-    let count = count_of(t, METHOD);
-    let mut i: u16 = 0;
-    while i < count {
-        match coefficients_of(t, i) {
-            MethodAnswer::Whole(_) => {
-                i += 1;
-            }
-            MethodAnswer::Refused { no: _ } => {
-                return Converted::Refused {
-                    no: 10,
-                    place: slot_of(t, METHOD, i, OWN_NAME) as usize,
-                };
-            }
+    for i in 0..count_of(t, METHOD) {
+        if coefficients_of(t, i).is_err() {
+            return Err(Refusal {
+                no: 10,
+                place: slot_of(t, METHOD, i, OWN_NAME) as usize,
+            });
         }
     }
-    Converted::Fine
+    Ok(())
 }

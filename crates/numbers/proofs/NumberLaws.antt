@@ -7,10 +7,10 @@ use borrow.Author.Rules.{rules}
 use lib.IntN.{ℤ, pos, negsuc, neg_ℤ}
 use mir.Syntax.{w64}
 use mir.Val.{to_z}
+use Rattle.std.specs.Prelude.{Result, Ok, Err}
 use Rattle.cell.proofs.Signed.{is-cast}
+use Rattle.text.specs.declared.cursor.Refusal.{Refusal}
 use Rattle.load.specs.Load.{Loaded, loaded_of}
-use Rattle.load.specs.declared.LoadAnswer.{LoadAnswer}
-use Rattle.load.specs.declared.LoadAnswer.TheVariants as load
 use Rattle.number.specs.Answer.{Answer}
 use Rattle.look.specs.Calls.{Kept, After, raw_number, request, writing}
 use Rattle.look.specs.Told.{told_search, told_call, after}
@@ -26,8 +26,8 @@ use Rattle.numbers.proofs.ListingSize.{count_held}
 
 -- ---- each answer's number
 
-pub load-refused : (a : LoadAnswer) (n p k : ℕ) → a ≡ load.Refused n p → k ≡ p % 4294967296 * 64 + n → k ≡ load_number (told_load a)
-load-refused a n p k e q = q ∙ rw e
+pub load-refused : (a : Result (Unit {0}) Refusal) (r : Refusal) (k : ℕ) → a ≡ Err r → k ≡ r.place % 4294967296 * 64 + r.no → k ≡ load_number (told_load a)
+load-refused a r k e q = q ∙ rw e
 
 pub find_at : (a : SearchAnswer) (i : ℕ) → a ≡ search.At i → i < 2 ^ 16 → to_z w64 i ≡ find_number (told_search a)
 find_at a i e h = (is-cast i (omega arith)).same ∙ rw e
@@ -48,12 +48,12 @@ pub ruleset numbers = (load-refused, find_at, find-nothing, find-refused, listin
 
 -- ---- the library's answer a, told as the number n
 
-loaded-so : (a : LoadAnswer) (t w : List ℕ) → load_call (load_number (told_load a)) t w ≡ load_told (loaded_of a t w)
+loaded-so : (a : Result (Unit {0}) Refusal) (t w : List ℕ) → load_call (load_number (told_load a)) t w ≡ load_told (loaded_of a t w)
 unfolding load_told
-loaded-so load.Accepted t w = refl
-loaded-so (load.Refused n p) t w = refl
+loaded-so (Ok u) t w = refl
+loaded-so (Err r) t w = refl
 
-pub load_told_lem : (n : ℕ) (a : LoadAnswer) (t w : List ℕ) (o : Loaded) → n ≡ load_number (told_load a) → loaded_of a t w ≡ o → load_call n t w ≡ load_told o
+pub load_told_lem : (n : ℕ) (a : Result (Unit {0}) Refusal) (t w : List ℕ) (o : Loaded) → n ≡ load_number (told_load a) → loaded_of a t w ≡ o → load_call n t w ≡ load_told o
 load_told_lem n a t w o p e = ap (λ (m : ℕ). load_call m t w) p ∙ loaded-so a t w ∙ ap load_told e
 
 pub find-told : (n : ℤ) (a : SearchAnswer) (o : Answer ℕ) → n ≡ find_number (told_search a) → told_search a ≡ o → n ≡ find_number o

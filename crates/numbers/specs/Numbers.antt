@@ -1,13 +1,12 @@
 -- How the C functions tell an answer as a number, in the words of include/obarsivel.h, and what the lent buffers hold after a call.
-use Rattle.std.specs.Prelude.{ℕ, zero, suc, ◌+◌, ◌*◌, ◌%◌, ◌^◌, List, [], ◌∷◌, false, ◌&&◌, leb, Float, ℤ, pos, negsuc, neg_ℤ, length}
+use Rattle.std.specs.Prelude.{ℕ, zero, suc, ◌+◌, ◌*◌, ◌%◌, ◌^◌, List, [], ◌∷◌, false, ◌&&◌, leb, Float, ℤ, pos, negsuc, neg_ℤ, length, Result, Ok, Err}
 use Rattle.std.specs.Float.{fin}
 use Rattle.text.specs.Answer as placed
+use Rattle.text.specs.declared.cursor.Refusal.{Refusal}
 use Rattle.number.specs.Answer.{Answer, given, refused}
 use Rattle.convert.specs.Shown.{Display, real, words, nothing}
 use Rattle.convert.specs.declared.fraction.Physical.{Physical}
 use Rattle.load.specs.Load.{Loaded}
-use Rattle.load.specs.declared.LoadAnswer.{LoadAnswer}
-use Rattle.load.specs.declared.LoadAnswer.TheVariants as load
 use Rattle.look.specs.Calls.{Reading, Kept, After, unless}
 use Rattle.look.specs.Lines.{laid_over}
 use Rattle.listing.specs.Listing.{Listed}
@@ -26,10 +25,10 @@ version = version_number 0 3 0
 
 -- ---- obarsivel_load
 
--- what `LoadAnswer` answers
-abbrev pub told_load : LoadAnswer → placed.Answer (Unit {0})
-told_load load.Accepted = placed.given tt
-told_load (load.Refused n p) = placed.refused n p
+-- what a load answers in the code
+abbrev pub told_load : Result (Unit {0}) Refusal → placed.Answer (Unit {0})
+told_load (Ok u) = placed.given tt
+told_load (Err r) = placed.refused r.no r.place
 
 -- "Answers 0 (accepted), or place * 64 + number" (a place is below 2^32: a description has at most 2^24 bytes)
 abbrev pub load_number : placed.Answer (Unit {0}) → ℕ

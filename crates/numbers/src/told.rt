@@ -4,9 +4,9 @@ ghost use Rattle.look.specs.Told.{told_search, told_call};
 ghost use Rattle.numbers.specs.Numbers.{told_load, load_number, find_number, call_number, told_listing, held_count, listing_number};
 
 use listing::listing::ListingAnswer;
-use load::LoadAnswer;
 use look::call::CallAnswer;
 use look::search::SearchAnswer;
+use text::cursor::Refusal;
 
 // A refusal's number and place in one number: the place times 64, and the number.
 const NUMBERS: u64 = 64;
@@ -18,12 +18,12 @@ const PLACES: u64 = 4294967296;
 const BYTES: u64 = 9223372036854775808;
 
 // What a load answers: 0 where it is accepted, else place and number in one.
-pub fn load_number(a: LoadAnswer) -> u64
+pub fn load_number(a: Result<(), Refusal>) -> u64
     ensures { result ≡ load_number (told_load a) }
 {
     match a {
-        LoadAnswer::Accepted => 0,
-        LoadAnswer::Refused { no, place } => (place as u64) % PLACES * NUMBERS + (no as u64),
+        Ok(()) => 0,
+        Err(r) => (r.place as u64) % PLACES * NUMBERS + (r.no as u64),
     }
 }
 

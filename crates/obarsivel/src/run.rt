@@ -12,7 +12,7 @@ use console::sizes::{
 };
 use files::file::{FileRead, read_file};
 use files::replace::Edits;
-use load::{LoadAnswer, load};
+use load::load;
 use std::io;
 use std::rt::Env;
 use tables::setting::Setting;
@@ -50,8 +50,8 @@ fn run_loaded(
     let mut t = [0u64; TABLE_CELLS];
     let mut work = [0u64; WORK_CELLS];
     match load(x, image, s, &mut t, &mut work) {
-        LoadAnswer::Accepted => run_command(rt, command, x, image, s.base, &t),
-        LoadAnswer::Refused { no, place } => refused_load(rt, x, no, place),
+        Ok(()) => run_command(rt, command, x, image, s.base, &t),
+        Err(r) => refused_load(rt, x, r.no, r.place),
     }
 }
 

@@ -4,26 +4,22 @@ use mathlib.Core.Path.{◌≡◌, sym, ◌∙◌, ap}
 use mathlib.Core.List.{List}
 use mathlib.Core.Bool.{Bool}
 use native.Mathlib.Omega.{arith}
+use Rattle.std.specs.Prelude.{Option, Some, None, unwrap_or}
 use Rattle.cell.specs.Kind.{is_type}
 use Rattle.rows.specs.Sections.{layout, object}
 use Rattle.rows.specs.Slots.{fnc_values_position, fnc_values_type, axis_pts_x_position, axis_pts_x_type, axis_pts_y_position, axis_pts_y_type, no_axis_pts_x_position, no_axis_pts_x_type, no_axis_pts_y_position, no_axis_pts_y_type, object_layout, object_layout_past}
 use Rattle.grammar.specs.Move.{View}
 use Rattle.grammar.specs.Parameter.{find, found_at}
-use Rattle.grammar.specs.declared.names.Found.{Found}
-use Rattle.grammar.specs.declared.names.Found.TheVariants as found
 use Rattle.place.specs.declared.order.Entry.{Entry}
 use Rattle.place.specs.declared.order.Layout.{Layout}
 use Rattle.objects.specs.Object.{led, part, layout_at, no_entry, measured, layout_number}
 
 -- f is what `find` gave
-module _ (x : List ℕ) (v : View) (j a e : ℕ) (f : Found) (p : found_at f ≡ find x v j a e) where
-  pub led-at : (i : ℕ) → f ≡ found.At i → i ≡ led x v j a e
-  led-at i y = let z : suc i ≡ find x v j a e = sym (ap found_at y) ∙ p in omega arith
+pub led-is : (x : List ℕ) (v : View) (j a e : ℕ) (f : Option ℕ) → found_at f ≡ find x v j a e → unwrap_or f 0 ≡ led x v j a e
+led-is x v j a e (Some i) p = omega (arith, p)
+led-is x v j a e None p = omega (arith, p)
 
-  pub led-none : f ≡ found.Nothing → 0 ≡ led x v j a e
-  led-none y = let z : 0 ≡ find x v j a e = sym (ap found_at y) ∙ p in omega arith
-
-pub ruleset leads = (led-at, led-none)
+pub ruleset leads = led-is
 
 pub part-is : (v : View) (l p k at kind position : ℕ) (present : Bool) → at ≡ v.slots layout l p → kind ≡ v.slots layout l k → position ≡ min at 65535 → present ≡ is_type kind
     → ◌≡◌ {A = Entry} (record { present = present; position = position; kind = kind }) (part v l p k)

@@ -21,8 +21,7 @@ use Rattle.place.specs.declared.refusal.PlaceRefusal.{PlaceRefusal}
 use Rattle.place.specs.declared.judge.Standing.{Standing}
 use Rattle.objects.specs.Object.{axis_at, shared_by, judge_object}
 use Rattle.objects.specs.Stage.{names, named, turns_of, turns_from, total_or, marked, turn, judge_each, Goes, judge_all, told_turn}
-use Rattle.objects.specs.declared.stage.Turn.{Turn}
-use Rattle.objects.specs.declared.stage.Turn.TheVariants as variant
+use Rattle.text.specs.declared.cursor.Refusal.{Refusal}
 use Rattle.objects.proofs.Shares.{share}
 
 -- past the marks nothing is marked
@@ -81,12 +80,12 @@ module _ (image : List ℕ) (base : ℕ) (x : List ℕ) (v : View) (seen : List 
     mark-seen h = rw (← p, h)
 
   -- these turns, and others after them; r₁ is what these gave
-  module _ (is js : List ℕ) (used : ℕ) (r₁ : Turn) (seen₁ : List ℕ) (p : Goes image base x v seen is used (told_turn r₁) seen₁) where
-    goes_then : (n : ℕ) → r₁ ≡ variant.Total n → (r : Answer ℕ) (seen₂ : List ℕ) → Goes image base x v seen₁ js n r seen₂ → Goes image base x v seen (is ++ js) used r seen₂
+  module _ (is js : List ℕ) (used : ℕ) (r₁ : Result ℕ Refusal) (seen₁ : List ℕ) (p : Goes image base x v seen is used (told_turn r₁) seen₁) where
+    goes_then : (n : ℕ) → r₁ ≡ Ok n → (r : Answer ℕ) (seen₂ : List ℕ) → Goes image base x v seen₁ js n r seen₂ → Goes image base x v seen (is ++ js) used r seen₂
     goes_then n y r seen₂ q = record { on = λ rest. q.on rest ∙ (rw y at (p.on (js ++ rest))) ∙ ap (λ (l : List ℕ). judge_each image base x v seen l used) (sym (append_assoc is js rest)) }
 
-    goes-stop : (n m : ℕ) → r₁ ≡ variant.Refused n m → (seen₂ : List ℕ) → Goes image base x v seen (is ++ js) used (refused n m) seen₂
-    goes-stop n m y seen₂ = record { on = λ rest. (rw y at (p.on (js ++ rest))) ∙ ap (λ (l : List ℕ). judge_each image base x v seen l used) (sym (append_assoc is js rest)) }
+    goes-stop : (d : Refusal) → r₁ ≡ Err d → (seen₂ : List ℕ) → Goes image base x v seen (is ++ js) used (refused d.no d.place) seen₂
+    goes-stop d y seen₂ = record { on = λ rest. (rw y at (p.on (js ++ rest))) ∙ ap (λ (l : List ℕ). judge_each image base x v seen l used) (sym (append_assoc is js rest)) }
 
   -- b is what `is_naming` gave
   module _ (i k used : ℕ) (b : Bool) (p : b ≡ names v i k) where
@@ -100,22 +99,22 @@ module _ (image : List ℕ) (base : ℕ) (x : List ℕ) (v : View) (seen : List 
     named_none h = rw (← p, h) (record { on = λ rest. refl })
 
   -- r₁ is what `take_named` gave for y
-  module _ (i used : ℕ) (r₁ : Turn) (seen₁ : List ℕ) (p : Goes image base x v seen (named x v i 1) used (told_turn r₁) seen₁) where
-    pub later-on : (n : ℕ) → r₁ ≡ variant.Total n → (r : Answer ℕ) (seen₂ : List ℕ) → r ≡ turn image base x v seen₁ i n → seen₂ ≡ marked seen₁ i
+  module _ (i used : ℕ) (r₁ : Result ℕ Refusal) (seen₁ : List ℕ) (p : Goes image base x v seen (named x v i 1) used (told_turn r₁) seen₁) where
+    pub later-on : (n : ℕ) → r₁ ≡ Ok n → (r : Answer ℕ) (seen₂ : List ℕ) → r ≡ turn image base x v seen₁ i n → seen₂ ≡ marked seen₁ i
         → Goes image base x v seen (named x v i 1 ++ (i ∷ [])) used r seen₂
     later-on n y r seen₂ q w = goes_then (named x v i 1) (i ∷ []) used r₁ seen₁ p n y r seen₂ (goes_one image base x v seen₁ i n r seen₂ q w)
 
-    pub later-stop : (n m : ℕ) → r₁ ≡ variant.Refused n m → Goes image base x v seen (named x v i 1 ++ (i ∷ [])) used (refused n m) seen₁
-    later-stop n m y = goes-stop (named x v i 1) (i ∷ []) used r₁ seen₁ p n m y seen₁
+    pub later-stop : (d : Refusal) → r₁ ≡ Err d → Goes image base x v seen (named x v i 1 ++ (i ∷ [])) used (refused d.no d.place) seen₁
+    later-stop d y = goes-stop (named x v i 1) (i ∷ []) used r₁ seen₁ p d y seen₁
 
   -- and for x
-  module _ (i used : ℕ) (r₁ : Turn) (seen₁ : List ℕ) (p : Goes image base x v seen (named x v i 0) used (told_turn r₁) seen₁) where
-    pub turns-on : (n : ℕ) → r₁ ≡ variant.Total n → (r : Answer ℕ) (seen₂ : List ℕ) → Goes image base x v seen₁ (named x v i 1 ++ (i ∷ [])) n r seen₂
+  module _ (i used : ℕ) (r₁ : Result ℕ Refusal) (seen₁ : List ℕ) (p : Goes image base x v seen (named x v i 0) used (told_turn r₁) seen₁) where
+    pub turns-on : (n : ℕ) → r₁ ≡ Ok n → (r : Answer ℕ) (seen₂ : List ℕ) → Goes image base x v seen₁ (named x v i 1 ++ (i ∷ [])) n r seen₂
         → Goes image base x v seen (turns_of x v i) used r seen₂
     turns-on n y r seen₂ q = goes_then (named x v i 0) (named x v i 1 ++ (i ∷ [])) used r₁ seen₁ p n y r seen₂ q
 
-    pub turns-stop : (n m : ℕ) → r₁ ≡ variant.Refused n m → Goes image base x v seen (turns_of x v i) used (refused n m) seen₁
-    turns-stop n m y = goes-stop (named x v i 0) (named x v i 1 ++ (i ∷ [])) used r₁ seen₁ p n m y seen₁
+    pub turns-stop : (d : Refusal) → r₁ ≡ Err d → Goes image base x v seen (turns_of x v i) used (refused d.no d.place) seen₁
+    turns-stop d y = goes-stop (named x v i 0) (named x v i 1 ++ (i ∷ [])) used r₁ seen₁ p d y seen₁
 
 pub ruleset turns = (turn-open, turn-seen, mark-open, mark-seen)
 
@@ -141,7 +140,7 @@ module _ (image : List ℕ) (base : ℕ) (x : List ℕ) (v : View) (seen₀ : Li
     judging-end h = let z : v.counts object - i ≡ 0 = omega arith in rw z at q.same
 
     -- r is what `take_turns` gave
-    module _ (h : i < n) (r : Turn) (seen' : List ℕ) (g : Goes image base x v seen (turns_of x v i) used (told_turn r) seen') where
+    module _ (h : i < n) (r : Result ℕ Refusal) (seen' : List ℕ) (g : Goes image base x v seen (turns_of x v i) used (told_turn r) seen') where
       look : with (told_turn r) (judge_each image base x v seen' (turns_from (v.counts object - (i + 1)) x v (i + 1))) ≡ judge_each image base x v seen₀ (turns_from (v.counts object) x v 0) 0
       unfolding turns_from
       look =
@@ -149,11 +148,11 @@ module _ (image : List ℕ) (base : ℕ) (x : List ℕ) (v : View) (seen₀ : Li
           let w : suc i ≡ i + 1 = omega arith in
           g.on (turns_from (v.counts object - (i + 1)) x v (i + 1)) ∙ (rw (z, w) at q.same)
 
-      pub judging-on : (m : ℕ) → r ≡ variant.Total m → length seen' ≡ length seen → Judging image base x v seen₀ seen' m (i + 1)
+      pub judging-on : (m : ℕ) → r ≡ Ok m → length seen' ≡ length seen → Judging image base x v seen₀ seen' m (i + 1)
       judging-on m y l = record { within = omega arith; long = l ∙ q.long; same = rw y at look }
 
-      pub judging-stop : (m k : ℕ) → r ≡ variant.Refused m k → refused m k ≡ judge_each image base x v seen₀ (turns_from (v.counts object) x v 0) 0
-      judging-stop m k y = rw y at look
+      pub judging-stop : (d : Refusal) → r ≡ Err d → refused d.no d.place ≡ judge_each image base x v seen₀ (turns_from (v.counts object) x v 0) 0
+      judging-stop d y = rw y at look
 
 pub ruleset judgings = (judging-start, judging-end, judging-on, judging-stop, rules)
 

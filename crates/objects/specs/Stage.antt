@@ -1,6 +1,7 @@
 -- The last stage of a load: ".. in text order, an AXIS_PTS named by COM_AXIS being judged before the object that names it."
-use Rattle.std.specs.Prelude.{ℕ, zero, suc, ◌≡◌, List, [], ◌∷◌, ◌++◌, Bool, cond, ◌&&◌, eqb, ltb, get_or, set, replicate}
+use Rattle.std.specs.Prelude.{ℕ, zero, suc, ◌≡◌, List, [], ◌∷◌, ◌++◌, Bool, cond, ◌&&◌, eqb, ltb, get_or, set, replicate, Result, Ok, Err}
 use Rattle.text.specs.Answer.{Answer, given, refused, with}
+use Rattle.text.specs.declared.cursor.Refusal.{Refusal}
 use Rattle.number.specs.Answer as number
 use Rattle.number.specs.Most.{most_objects}
 use Rattle.rows.specs.Codes.{COM-AXIS}
@@ -9,8 +10,6 @@ use Rattle.rows.specs.Slots.{own_name, axis_descr_seen, axis_attribute}
 use Rattle.grammar.specs.Move.{View}
 use Rattle.place.specs.declared.judge.Standing.{Standing}
 use Rattle.objects.specs.Object.{axis_at, shared_by, judge_object}
-use Rattle.objects.specs.declared.stage.Turn.{Turn}
-use Rattle.objects.specs.declared.stage.Turn.TheVariants as variant
 
 -- object i has so many AXIS_DESCR, and k is a COM_AXIS
 unfoldable pub names : View → ℕ → ℕ → Bool
@@ -56,7 +55,7 @@ module _ (image : List ℕ) (base : ℕ) (x : List ℕ) (v : View) where
   unfoldable pub judge_all : Answer ℕ
   judge_all = judge_each (replicate most_objects 0) (turns_from (v.counts object) x v 0) 0
 
--- what `Turn` answers
-abbrev pub told_turn : Turn → Answer ℕ
-told_turn (variant.Total n) = given n
-told_turn (variant.Refused n p) = refused n p
+-- what a turn answers in the code: how many elements there are from here on, or the first refusal
+abbrev pub told_turn : Result ℕ Refusal → Answer ℕ
+told_turn (Ok n) = given n
+told_turn (Err r) = refused r.no r.place

@@ -7,7 +7,6 @@ ghost use Rattle.objects.specs.Object.{aligns_of, first_of, basis_of};
 
 use crate::ground::{aligns_of, first_of};
 use crate::layout::{layout_at, layout_number, measured};
-use crate::least::least32;
 use grammar::view::{OBJECT, slot_of};
 use place::order::Layout;
 use place::walk::Ground;
@@ -23,14 +22,13 @@ pub struct Basis {
 }
 
 // The greatest address.
-const ADDRESS: u32 = 4294967295;
+const ADDRESS: u64 = 4294967295;
 
 // The ground of object i, whose layout has the number l.
 fn ground_by(t: &[u64], base: u32, i: u16, l: u16) -> Ground
     ensures { result ≡ record { address = min ((view_in t.now).slots object i object_address) 4294967295; base = base; first = first_of (view_in t.now) i; aligns = aligns_of (view_in t.now) l } }
 {
-    let at = slot_of(t, OBJECT, i, OBJECT_ADDRESS);
-    let address = least32(at, ADDRESS);
+    let address = slot_of(t, OBJECT, i, OBJECT_ADDRESS).min(ADDRESS) as u32;
     let first = first_of(t, i);
     let aligns = aligns_of(t, l);
     Ground {

@@ -3,7 +3,6 @@ ghost use Rattle.std.specs.Prelude.{◌≡◌};
 ghost use Rattle.grammar.specs.Move.{view_in};
 ghost use Rattle.objects.specs.Object.{word, aligns_of, first_of};
 
-use crate::least::least8;
 use grammar::view::{FILE, LAYOUT, OBJECT, slot_of};
 use place::order::Aligns;
 use rows::slots::{
@@ -13,7 +12,7 @@ use rows::slots::{
 use words::codes::MSB_FIRST;
 
 // The greatest alignment word.
-const ALIGNMENT: u8 = 255;
+const ALIGNMENT: u64 = 255;
 
 // An alignment word: slot k of layout l, else slot c of the file's record.
 fn word_of(t: &[u64], l: u16, k: u16, c: u16) -> u8
@@ -21,10 +20,9 @@ fn word_of(t: &[u64], l: u16, k: u16, c: u16) -> u8
 {
     let own = slot_of(t, LAYOUT, l, k);
     if own == 0 {
-        let common = slot_of(t, FILE, 0, c);
-        return least8(common, ALIGNMENT);
+        return slot_of(t, FILE, 0, c).min(ALIGNMENT) as u8;
     }
-    least8(own, ALIGNMENT)
+    own.min(ALIGNMENT) as u8
 }
 
 // The alignment words for layout l.

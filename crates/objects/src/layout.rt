@@ -3,9 +3,8 @@ ghost use Rattle.std.specs.Prelude.{◌≡◌};
 ghost use Rattle.grammar.specs.Move.{view_in};
 ghost use Rattle.objects.specs.Object.{led, part, layout_at, no_entry, measured, layout_number};
 
-use crate::least::least16;
 use cell::kind::is_type;
-use grammar::names::{Found, find};
+use grammar::names::find;
 use grammar::view::{LAYOUT, OBJECT, slot_of};
 use place::order::{Entry, Layout};
 use rows::slots::{
@@ -15,25 +14,21 @@ use rows::slots::{
 };
 
 // The greatest Position.
-const POSITION: u16 = 65535;
+const POSITION: u64 = 65535;
 
 // The record of section j that the name from a up to e leads to.
 pub fn led(x: &[u8], t: &[u64], j: u8, a: usize, e: usize) -> u16
     ensures { result ≡ led x.now (view_in t.now) j a e }
 {
-    match find(x, t, j, a, e) {
-        Found::At(i) => i,
-        Found::Nothing => 0,
-    }
+    find(x, t, j, a, e).unwrap_or(0)
 }
 
 // What layout l says of a part: its Position in slot p, its data type in slot k.
 fn part_at(t: &[u64], l: u16, p: u16, k: u16) -> Entry
     ensures { result ≡ part (view_in t.now) l p k }
 {
-    let at = slot_of(t, LAYOUT, l, p);
     let kind = slot_of(t, LAYOUT, l, k);
-    let position = least16(at, POSITION);
+    let position = slot_of(t, LAYOUT, l, p).min(POSITION) as u16;
     let present = is_type(kind);
     Entry {
         present,

@@ -4,7 +4,5 @@
 pub mod basis;
 pub mod ground;
 pub mod layout;
-pub mod least;
 pub mod need;
 pub mod object;
-pub mod stage;

@@ -5,7 +5,6 @@ ghost use Rattle.objects.specs.Object.{no_axis, own_axis, value_need, axis_pts_n
 
 use crate::basis::basis_of;
 use crate::layout::led;
-use crate::least::least16;
 use grammar::view::{AXIS, OBJECT, slot_of};
 use judge::walk::place_parts;
 use place::rules::{Axis, Need};
@@ -16,13 +15,13 @@ use rows::slots::{
 use words::codes::{AXIS_PTS, CHARACTERISTIC, COM_AXIS, CURVE, MAP, VAL_BLK};
 
 // The greatest MaxAxisPoints.
-const POINTS: u16 = 256;
+const POINTS: u64 = 256;
 
 // The greatest NUMBER.
-const NUMBERS: u16 = 65535;
+const NUMBERS: u64 = 65535;
 
 // The most AXIS_DESCR of all objects.
-const AXES: u16 = 1024;
+const AXES: u64 = 1024;
 
 // An axis that an object has not: one point of one.
 fn no_axis() -> Axis
@@ -59,8 +58,7 @@ fn value_need() -> Need
 fn axis_pts_need(t: &[u64], i: u16) -> Need
     ensures { result ≡ axis_pts_need (view_in t.now) i }
 {
-    let points = slot_of(t, OBJECT, i, OBJECT_MAX_POINTS);
-    let most = least16(points, POINTS);
+    let most = slot_of(t, OBJECT, i, OBJECT_MAX_POINTS).min(POINTS) as u16;
     let x = own_axis(most);
     let y = no_axis();
     Need {
@@ -74,8 +72,7 @@ fn axis_pts_need(t: &[u64], i: u16) -> Need
 pub fn axis_at(t: &[u64], i: u16, k: u8) -> u16
     ensures { result ≡ axis_at (view_in t.now) i k }
 {
-    let n = slot_of(t, OBJECT, i, FIRST_HELD);
-    let first = least16(n, AXES);
+    let first = slot_of(t, OBJECT, i, FIRST_HELD).min(AXES) as u16;
     first + (k as u16)
 }
 
@@ -104,8 +101,7 @@ fn shared_points(image: &[u8], base: u32, x: &[u8], t: &[u64], s: u16) -> u16
 fn axis_need(image: &[u8], base: u32, x: &[u8], t: &[u64], a: u16) -> Axis
     ensures { result ≡ axis_need image.now base x.now (view_in t.now) a }
 {
-    let max = slot_of(t, AXIS, a, AXIS_MAX_POINTS);
-    let most = least16(max, POINTS);
+    let most = slot_of(t, AXIS, a, AXIS_MAX_POINTS).min(POINTS) as u16;
     if slot_of(t, AXIS, a, AXIS_ATTRIBUTE) == (COM_AXIS as u64) {
         let s = shared_by(x, t, a);
         let points = shared_points(image, base, x, t, s);
@@ -122,8 +118,7 @@ fn axis_need(image: &[u8], base: u32, x: &[u8], t: &[u64], a: u16) -> Axis
 fn block_need(t: &[u64], i: u16) -> Need
     ensures { result ≡ block_need (view_in t.now) i }
 {
-    let number = slot_of(t, OBJECT, i, NUMBER_OF_VALUES);
-    let most = least16(number, NUMBERS);
+    let most = slot_of(t, OBJECT, i, NUMBER_OF_VALUES).min(NUMBERS) as u16;
     let y = no_axis();
     let x = Axis {
         stored: false,

@@ -1,15 +1,14 @@
 -- References: "then references in text order (a reference that leads nowhere stops the load)", 7 at the reference's place.
-use Rattle.std.specs.Prelude.{ℕ, zero, suc, ◌+◌, min, List, [], ◌∷◌, Bool, false, cond, ◌&&◌, ◌||◌, length, ltb, eqb}
+use Rattle.std.specs.Prelude.{ℕ, zero, suc, ◌+◌, min, List, [], ◌∷◌, Bool, false, cond, ◌&&◌, ◌||◌, length, ltb, eqb, Result, Ok, Err}
 use Rattle.text.specs.Answer.{Answer, given, refused}
 use Rattle.text.specs.Bytes.{spells}
+use Rattle.text.specs.declared.cursor.Refusal.{Refusal}
 use Rattle.rows.specs.Codes.{AXIS-PTS, MEASUREMENT}
 use Rattle.rows.specs.Sections.{method, table, layout, object, axis}
 use Rattle.rows.specs.Slots.{block_code, compu_tab_ref, object_layout, object_conversion, object_input_quantity, axis_input_quantity, axis_conversion, axis_pts_ref}
 use Rattle.grammar.specs.Move.{View}
 use Rattle.grammar.specs.Parameter.{find}
 use Rattle.refer.specs.declared.Row.{Row}
-use Rattle.refer.specs.declared.Reference.{Reference}
-use Rattle.refer.specs.declared.Reference.TheVariants as variant
 
 -- where a reference stands: the section and the slot of its name; what it must lead to: a record of a section, of a class where it is
 -- not 0; and the word that stands for none (1 NO_COMPU_METHOD, 2 NO_INPUT_QUANTITY, 0 no such word)
@@ -82,7 +81,7 @@ sooner (refused n p) (refused m q) = cond (ltb q p) (refused m q) (refused n p)
 sooner (refused n p) (given u) = refused n p
 sooner (given u) b = b
 
--- what `Reference` answers
-abbrev pub told_reference : Reference → Answer (Unit {0})
-told_reference variant.Fine = given tt
-told_reference (variant.Refused n p) = refused n p
+-- what the code answers
+abbrev pub told_reference : Result (Unit {0}) Refusal → Answer (Unit {0})
+told_reference (Ok u) = given tt
+told_reference (Err r) = refused r.no r.place

@@ -3,22 +3,16 @@
 
 ghost use Rattle.std.specs.Prelude.{◌≡◌};
 ghost use Rattle.grammar.specs.Move.{view_in};
-ghost use Rattle.refer.specs.Refer.{inner_rows, row, is_free, judged_reference, failing, least_of, least_in, stopped, sooner, referred, told_reference};
+ghost use Rattle.refer.specs.Refer.{reference_rows, row, is_free, judged_reference, failing, least_of, stopped, sooner, referred, told_reference};
 
-use grammar::names::{Found, find};
+use grammar::names::find;
 use grammar::view::{AXIS, LAYOUT, METHOD, OBJECT, TABLE, count_of, slot_of};
 use rows::slots::{
     AXIS_CONVERSION, AXIS_INPUT_QUANTITY, AXIS_PTS_REF, BLOCK_CODE, COMPU_TAB_REF,
     OBJECT_CONVERSION, OBJECT_INPUT_QUANTITY, OBJECT_LAYOUT,
 };
 use text::bytes::same_part;
-
-// Every reference leads somewhere, or the refusal of the first that does not.
-#[derive(Clone, Copy)]
-pub enum Reference {
-    Fine,
-    Refused { no: u8, place: usize },
-}
+use text::cursor::Refusal;
 
 // A reference: its section and slot, the section and class that it must lead to, and the word that stands for none.
 #[derive(Clone, Copy)]
@@ -53,92 +47,79 @@ fn is_free(x: &[u8], free: u8, a: usize, e: usize) -> bool
 }
 
 // What the name from a up to e leads to: a record of the right class, or refusal 7 at its first byte.
-fn refer(x: &[u8], t: &[u64], r: Row, a: usize, e: usize) -> Reference
+fn refer(x: &[u8], t: &[u64], r: Row, a: usize, e: usize) -> Result<(), Refusal>
     ensures { told_reference result ≡ judged_reference x.now (view_in t.now) r a e }
 {
     if is_free(x, r.free, a, e) {
-        return Reference::Fine;
+        return Ok(());
     }
-    let Found::At(i) = find(x, t, r.target, a, e) else {
-        return Reference::Refused { no: 7, place: a };
-    };
+    let i = find(x, t, r.target, a, e).ok_or(Refusal { no: 7, place: a })?;
     if (r.class == 0) | (slot_of(t, r.target, i, BLOCK_CODE) == (r.class as u64)) {
-        return Reference::Fine;
+        return Ok(());
     }
-    Reference::Refused { no: 7, place: a }
+    Err(Refusal { no: 7, place: a })
 }
 
 // What record i's reference leads to; one that is not there, its end 0, or not in the text is fine.
-fn reference_of(x: &[u8], t: &[u64], r: Row, i: u16) -> Reference
+fn reference_of(x: &[u8], t: &[u64], r: Row, i: u16) -> Result<(), Refusal>
     ensures { told_reference result ≡ stopped x.now (failing x.now (view_in t.now) r i) }
 {
     let k = r.slot as u16;
     let a = slot_of(t, r.sec, i, k) as usize;
     let e = slot_of(t, r.sec, i, k + 1) as usize;
     if e == 0 {
-        return Reference::Fine;
+        return Ok(());
     }
     if x.len() <= a {
-        return Reference::Fine;
+        return Ok(());
     }
     refer(x, t, r, a, e)
 }
 
 // The earlier of two refusals, or the one that there is.
-fn sooner_of(a: Reference, b: Reference) -> Reference
+fn sooner_of(a: Result<(), Refusal>, b: Result<(), Refusal>) -> Result<(), Refusal>
     ensures { told_reference result ≡ sooner (told_reference a) (told_reference b) }
 {
-    let Reference::Refused { no: _, place: p } = a else {
-        return b;
-    };
-    let Reference::Refused { no: _, place: q } = b else {
-        return a;
-    };
-    if q < p { b } else { a }
+    match (a, b) {
+        (Ok(()), _) => b,
+        (_, Ok(())) => a,
+        (Err(p), Err(q)) => if q.place < p.place { b } else { a },
+    }
 }
 
 // The first by place of a row's references that lead nowhere.
-fn first_of(x: &[u8], t: &[u64], r: Row) -> Reference
+fn first_of(x: &[u8], t: &[u64], r: Row) -> Result<(), Refusal>
     ensures { told_reference result ≡ stopped x.now (least_of x.now (view_in t.now) r) }
 {
-    let count = count_of(t, r.sec);
-    let mut first = Reference::Fine;
-    let mut i = count;
-    while 0 < i {
-        i -= 1;
-        first = sooner_of(reference_of(x, t, r, i), first);
+    let mut first = Ok(());
+    for i in 0..count_of(t, r.sec) {
+        first = sooner_of(first, reference_of(x, t, r, i));
     }
     first
 }
 
-// The same, or the rest's where that is earlier.
-fn first_with(x: &[u8], t: &[u64], r: Row, rest: Reference) -> Reference
-    ensures { told_reference result ≡ sooner (stopped x.now (least_of x.now (view_in t.now) r)) (told_reference rest) }
+// Where references stand, in the order of the sections.
+fn reference_rows() -> [Row; 7]
+    ensures { result ≡ reference_rows }
 {
-    sooner_of(first_of(x, t, r), rest)
-}
-
-// The first by place of the references of axes and methods that lead nowhere.
-fn first_inside(x: &[u8], t: &[u64]) -> Reference
-    ensures { told_reference result ≡ stopped x.now (least_in x.now (view_in t.now) inner_rows) }
-{
-    let g = first_of(x, t, row_of(METHOD, COMPU_TAB_REF, TABLE, 0, 0));
-    let f = first_with(x, t, row_of(AXIS, AXIS_PTS_REF, OBJECT, 7, 0), g);
-    let e = first_with(x, t, row_of(AXIS, AXIS_CONVERSION, METHOD, 0, 1), f);
-    first_with(x, t, row_of(AXIS, AXIS_INPUT_QUANTITY, OBJECT, 10, 2), e)
+    [
+        row_of(OBJECT, OBJECT_LAYOUT, LAYOUT, 0, 0),
+        row_of(OBJECT, OBJECT_CONVERSION, METHOD, 0, 1),
+        row_of(OBJECT, OBJECT_INPUT_QUANTITY, OBJECT, 10, 2),
+        row_of(AXIS, AXIS_INPUT_QUANTITY, OBJECT, 10, 2),
+        row_of(AXIS, AXIS_CONVERSION, METHOD, 0, 1),
+        row_of(AXIS, AXIS_PTS_REF, OBJECT, 7, 0),
+        row_of(METHOD, COMPU_TAB_REF, TABLE, 0, 0),
+    ]
 }
 
 // Judges every reference of the records: the first by place that leads nowhere stops the load.
-pub fn refer_all(x: &[u8], t: &[u64]) -> Reference
+pub fn refer_all(x: &[u8], t: &[u64]) -> Result<(), Refusal>
     ensures { told_reference result ≡ referred x.now (view_in t.now) }
 {
-    let d = first_inside(x, t);
-    let c = first_with(
-        x,
-        t,
-        row_of(OBJECT, OBJECT_INPUT_QUANTITY, OBJECT, 10, 2),
-        d,
-    );
-    let b = first_with(x, t, row_of(OBJECT, OBJECT_CONVERSION, METHOD, 0, 1), c);
-    first_with(x, t, row_of(OBJECT, OBJECT_LAYOUT, LAYOUT, 0, 0), b)
+    let mut first = Ok(());
+    for r in reference_rows() {
+        first = sooner_of(first, first_of(x, t, r));
+    }
+    first
 }

@@ -11,19 +11,15 @@ ghost use Rattle.objects.specs.Stage.{names, named, turns_of, turns_from, marked
 use grammar::view::{AXIS, OBJECT, count_of, slot_of};
 use objects::need::{axis_at, shared_by};
 use objects::object::judge_one;
-use objects::stage::Turn;
 use rows::slots::{AXIS_ATTRIBUTE, AXIS_DESCR_SEEN, OWN_NAME};
+use text::cursor::Refusal;
 use words::codes::COM_AXIS;
 
 // Whether object i is still to be judged.
 fn is_open(seen: &[u8], i: u16) -> bool
     ensures { result ≡ eqb (get_or seen.now i 0) 0 }
 {
-    let k = i as usize;
-    if k < seen.len() {
-        return seen[k] == 0;
-    }
-    true
+    seen.get(i as usize).copied().unwrap_or(0) == 0
 }
 
 // Object i counts as judged.
@@ -37,18 +33,15 @@ fn mark(seen: &mut [u8], i: u16)
 }
 
 // The judgement of object i with its place.
-fn weigh(image: &[u8], base: u32, x: &[u8], t: &[u64], i: u16, used: u32) -> Turn
+fn weigh(image: &[u8], base: u32, x: &[u8], t: &[u64], i: u16, used: u32) -> Result<u32, Refusal>
     ensures { told_turn result ≡ total_or ((view_in t.now).slots object i own_name) (judge_object image.now base x.now (view_in t.now) i used) }
 {
     match judge_one(image, base, x, t, i, used) {
-        Ok(s) => Turn::Total(s.total as u32),
-        Err(r) => {
-            let place = slot_of(t, OBJECT, i, OWN_NAME) as usize;
-            Turn::Refused {
-                no: r.number(),
-                place,
-            }
-        }
+        Ok(s) => Ok(s.total as u32),
+        Err(r) => Err(Refusal {
+            no: r.number(),
+            place: slot_of(t, OBJECT, i, OWN_NAME) as usize,
+        }),
     }
 }
 
@@ -61,14 +54,14 @@ fn take_turn(
     seen: &mut [u8],
     i: u16,
     used: u32,
-) -> Turn
+) -> Result<u32, Refusal>
     ensures { (told_turn result ≡ turn image.now base x.now (view_in t.now) seen.old i used) × (seen.new ≡ marked seen.old i) }
 {
     if is_open(seen, i) {
         mark(seen, i);
         return weigh(image, base, x, t, i, used);
     }
-    Turn::Total(used)
+    Ok(used)
 }
 
 // Whether AXIS_DESCR k of object i is there and names an AXIS_PTS.
@@ -91,7 +84,7 @@ fn take_named(
     i: u16,
     k: u8,
     used: u32,
-) -> Turn
+) -> Result<u32, Refusal>
     ensures { Goes image.now base x.now (view_in t.now) seen.old (named x.now (view_in t.now) i k) used (told_turn result) seen.new }
 {
     if is_naming(t, i, k) {
@@ -99,7 +92,7 @@ fn take_named(
         let s = shared_by(x, t, a);
         return take_turn(image, base, x, t, seen, s, used);
     }
-    Turn::Total(used)
+    Ok(used)
 }
 
 // The turns of the y axis and of object i itself.
@@ -111,13 +104,11 @@ fn take_later(
     seen: &mut [u8],
     i: u16,
     used: u32,
-) -> Turn
+) -> Result<u32, Refusal>
     ensures { Goes image.now base x.now (view_in t.now) seen.old (named x.now (view_in t.now) i 1 ++ (i ∷ [])) used (told_turn result) seen.new }
 {
-    match take_named(image, base, x, t, seen, i, 1, used) {
-        Turn::Total(n) => take_turn(image, base, x, t, seen, i, n),
-        Turn::Refused { no, place } => Turn::Refused { no, place },
-    }
+    let n = take_named(image, base, x, t, seen, i, 1, used)?;
+    take_turn(image, base, x, t, seen, i, n)
 }
 
 // The turns of object i: those that it names, x's and then y's, and itself.
@@ -129,38 +120,26 @@ fn take_turns(
     seen: &mut [u8],
     i: u16,
     used: u32,
-) -> Turn
+) -> Result<u32, Refusal>
     ensures { Goes image.now base x.now (view_in t.now) seen.old (turns_of x.now (view_in t.now) i) used (told_turn result) seen.new }
 {
-    match take_named(image, base, x, t, seen, i, 0, used) {
-        Turn::Total(n) => take_later(image, base, x, t, seen, i, n),
-        Turn::Refused { no, place } => Turn::Refused { no, place },
-    }
+    let n = take_named(image, base, x, t, seen, i, 0, used)?;
+    take_later(image, base, x, t, seen, i, n)
 }
 
 // Judges every object, where those that were judged are marked.
-fn judge_each(image: &[u8], base: u32, x: &[u8], t: &[u64], seen: &mut [u8]) -> Turn
+fn judge_each(image: &[u8], base: u32, x: &[u8], t: &[u64], seen: &mut [u8]) -> Result<u32, Refusal>
     ensures { told_turn result ≡ judge_each image.now base x.now (view_in t.now) seen.old (turns_from ((view_in t.now).counts object) x.now (view_in t.now) 0) 0 }
 {
-    let count = count_of(t, OBJECT);
-    let mut used: u32 = 0;
-    let mut i: u16 = 0;
-    while i < count {
-        match take_turns(image, base, x, t, seen, i, used) {
-            Turn::Total(n) => {
-                used = n;
-                i += 1;
-            }
-            Turn::Refused { no, place } => {
-                return Turn::Refused { no, place };
-            }
-        }
+    let mut used = 0;
+    for i in 0..count_of(t, OBJECT) {
+        used = take_turns(image, base, x, t, seen, i, used)?;
     }
-    Turn::Total(used)
+    Ok(used)
 }
 
 // Judges every object of the records.
-pub fn judge_all(image: &[u8], base: u32, x: &[u8], t: &[u64]) -> Turn
+pub fn judge_all(image: &[u8], base: u32, x: &[u8], t: &[u64]) -> Result<u32, Refusal>
     ensures { told_turn result ≡ judge_all image.now base x.now (view_in t.now) }
 {
     let mut seen = [0u8; 512];

@@ -9,7 +9,7 @@ use list::make::make_list;
 use list::write::{write_physical, write_raw};
 use listing::listing::ListingAnswer;
 use listings::whole::listing;
-use load::{LoadAnswer, load};
+use load::load;
 use look::call::CallAnswer;
 use std::io;
 use std::io::Read;
@@ -319,12 +319,12 @@ fn run_loaded(rt: &impl Print, q: &[u8], x: &[u8], image: &mut [u8], base: u32) 
         edition: EDITION_ONE,
     };
     match load(x, image, s, &mut t, &mut work) {
-        LoadAnswer::Accepted => {
+        Ok(()) => {
             run_short(rt, x, image, base, &t)?;
             run_damaged(rt, x, image, base)?;
             run(rt, q, x, image, base, &t)
         }
-        LoadAnswer::Refused { no, place } => print_refusal(rt, no, place),
+        Err(r) => print_refusal(rt, r.no, r.place),
     }
 }
 

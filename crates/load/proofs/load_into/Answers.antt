@@ -1,38 +1,11 @@
-use Rattle.load.proofs.LoadLaws.{intos}
+use Rattle.std.proofs.lemmas.Result.{err_from_is_err_and}
+use Rattle.load.proofs.LoadLaws.{intos, into-refused}
 use Rattle.load.proofs.load_into.Goals as goal
 
-pub clear-requires : goal.clear-requires
-clear-requires c = search intos
+pub returns-in_err-read : goal.returns-in_err-read
+returns-in_err-read c =
+    let p = err_from_is_err_and c.from_residual.result c.from_residual.ensures.1 in
+    rw (p.1, p.2) (into-refused _ _ _ _ _ _ _ c.requires.1 c.clear.ensures _ c.read.ensures _ c.in_err-read.was)
 
-pub read-requires : goal.read-requires
-read-requires c = search intos
-
-pub enum_told-1 : goal.enum_told-1
-enum_told-1 c = search intos
-
-pub fill-answer-requires : goal.fill-answer-requires
-fill-answer-requires c = search intos
-
-pub clear-requires-in-Accepted : goal.clear-requires-in-Accepted
-clear-requires-in-Accepted c = search intos
-
-pub enum_known-no : goal.enum_known-no
-enum_known-no c = search intos
-
-pub shape_of-tables-in-Accepted : goal.shape_of-tables-in-Accepted
-shape_of-tables-in-Accepted c = search intos
-
-pub shape_of-work-in-Accepted : goal.shape_of-work-in-Accepted
-shape_of-work-in-Accepted c = search intos
-
-pub returns-in-Accepted : goal.returns-in-Accepted
-returns-in-Accepted c = search intos
-
-pub shape_of-tables-in-Refused : goal.shape_of-tables-in-Refused
-shape_of-tables-in-Refused c = search intos
-
-pub shape_of-work-in-Refused : goal.shape_of-work-in-Refused
-shape_of-work-in-Refused c = search intos
-
-pub returns-in-Refused : goal.returns-in-Refused
-returns-in-Refused c = search intos
+pub returns : goal.returns
+returns c = search intos

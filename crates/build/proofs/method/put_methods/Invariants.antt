@@ -1,4 +1,3 @@
-use Prim.Native.Nat.{◌-◌}
 use Rattle.rows.specs.Sections.{method}
 use Rattle.grammar.specs.Move.{view_in}
 use Rattle.tables.specs.Form as form
@@ -8,6 +7,3 @@ use Rattle.build.proofs.method.put_methods.Given as goal
 
 abbrev pub invariant-loop-i : goal.invariant-loop-i
 invariant-loop-i l = Rowing l.initial.u form.method_section ((view_in l.t).counts method) (method_row l.x (view_in l.t)) l.i l.u
-
-abbrev pub decreases-loop-i : goal.decreases-loop-i
-decreases-loop-i l = l.count - l.i

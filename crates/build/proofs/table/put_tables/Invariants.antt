@@ -1,4 +1,3 @@
-use Prim.Native.Nat.{◌-◌}
 use Rattle.rows.specs.Sections.{table}
 use Rattle.grammar.specs.Move.{view_in}
 use Rattle.tables.specs.Form as form
@@ -8,6 +7,3 @@ use Rattle.build.proofs.table.put_tables.Given as goal
 
 abbrev pub invariant-loop-i : goal.invariant-loop-i
 invariant-loop-i l = Rowing l.initial.u form.table_section ((view_in l.t).counts table) (table_row (view_in l.t)) l.i l.u
-
-abbrev pub decreases-loop-i : goal.decreases-loop-i
-decreases-loop-i l = l.count - l.i

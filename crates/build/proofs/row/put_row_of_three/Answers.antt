@@ -1,5 +1,0 @@
-use Rattle.build.proofs.RowLaws.{rows}
-use Rattle.build.proofs.row.put_row_of_three.Goals as goal
-
-pub returns : goal.returns
-returns c = search rows

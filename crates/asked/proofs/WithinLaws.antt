@@ -1,18 +1,18 @@
 -- Limits on what a raw number means: the code's branches as laws, which `search withins` applies.
 use mathlib.Core.Path.{◌≡◌, refl, sym, ap, ap₂, ◌∙◌}
-use mathlib.Core.Bool.{Bool, true, false, ◌&&◌}
+use mathlib.Core.Bool.{Bool, true, false, cond, ◌&&◌}
 use mathlib.Core.List.{List}
 use Prim.Native.Nat.{ℕ}
 use native.Mathlib.Omega.{arith}
 use borrow.Author.Rules.{rules}
 use lib.IntN.{ℤ}
-use Rattle.number.specs.Answer.{Answer, given, refused}
+use Rattle.number.specs.Answer.{given, refused}
 use Rattle.number.specs.Decimal.{Scaled}
 use Rattle.cell.specs.declared.kind.Shape.{Shape}
 use Rattle.convert.specs.declared.method.Coefficients.{Coefficients}
 use Rattle.convert.specs.declared.fraction.Physical.{Physical}
-use Rattle.convert.specs.declared.asked.RawAnswer.{RawAnswer}
-use Rattle.convert.specs.declared.asked.RawAnswer.TheVariants as raw
+use Rattle.convert.specs.declared.asked.RawRefusal.{RawRefusal}
+use Rattle.std.specs.Prelude.{Result, Ok, Err}
 use Rattle.convert.specs.Limit.{at_most_fraction, fraction_at_most}
 use Rattle.convert.specs.Fraction.{Value, none, number, text, fraction_of}
 use Rattle.convert.specs.Round.{Halves}
@@ -46,20 +46,23 @@ module _ (lower upper : Scaled) (p : Physical) where
     unfolding means_within
     means-not h = held-other (fraction_of k y) e h ∙ ap (λ (x : ℤ). value_within lower upper (fraction_of k x)) ey
 
--- ---- a raw number where what it means lies within the limits; y is what the machine reads back of z
-module _ (lower upper : Scaled) (k : Coefficients) (a : RawAnswer) where
-  pub limited-is : (z y : ℤ) {b : Bool} → a ≡ raw.Raw z → y ≡ z → b ≡ means_within lower upper k y → b ≡ true → given y ≡ limited_raw lower upper k (told_raw a)
-  limited-is z y e p h q = rw (e, sym p, sym h ∙ q)
+-- ---- the rounded number a, where what it means lies within the limits; y is what the machine reads back of z
+module _ (up : Halves) (lower upper : Scaled) (k : Coefficients) (t : Shape) (mask : ℕ) (s : List ℕ) (a : Result ℤ RawRefusal) (told : told_raw a ≡ rounded_raw up lower upper k t mask s) where
+  told_is : (r : Result ℤ RawRefusal) → a ≡ r → limited_raw lower upper k (told_raw r) ≡ asked_raw up lower upper k t mask s
+  unfolding asked_raw
+  told_is r e = ap (limited_raw lower upper k) (ap told_raw (sym e) ∙ told)
 
-  pub limited-not : (z y : ℤ) {b : Bool} → a ≡ raw.Raw z → y ≡ z → b ≡ means_within lower upper k y → b ≡ false → refused 16 ≡ limited_raw lower upper k (told_raw a)
-  limited-not z y e p h q = rw (e, sym p, sym h ∙ q)
+  pub asked-refused : (r : RawRefusal) → a ≡ Err r → told_raw (Err r) ≡ asked_raw up lower upper k t mask s
+  asked-refused r e = told_is (Err r) e
 
-  pub limited-refused : (n : ℕ) → a ≡ raw.Refused n → refused n ≡ limited_raw lower upper k (told_raw a)
-  limited-refused n e = rw e
+  module _ (z y : ℤ) (e : a ≡ Ok z) (ey : y ≡ z) {b : Bool} (eb : b ≡ means_within lower upper k y) where
+    limited : cond b (given y) (refused 16) ≡ asked_raw up lower upper k t mask s
+    limited = rw (eb, ey) (told_is (Ok z) e)
 
-pub asked_is : (up : Halves) (lower upper : Scaled) (k : Coefficients) (t : Shape) (mask : ℕ) (s : List ℕ) (a r : Answer ℤ) → a ≡ rounded_raw up lower upper k t mask s → r ≡ limited_raw lower upper k a
-    → r ≡ asked_raw up lower upper k t mask s
-unfolding asked_raw
-asked_is up lower upper k t mask s a r e q = q ∙ rw e
+    pub asked-inside : b ≡ true → given y ≡ asked_raw up lower upper k t mask s
+    asked-inside q = ap (λ (w : Bool). cond w (given y) (refused 16)) (sym q) ∙ limited
 
-pub ruleset withins = (means-so, means-not, limited-is, limited-not, limited-refused, asked_is, rules)
+    pub asked-outside : b ≡ false → refused 16 ≡ asked_raw up lower upper k t mask s
+    asked-outside q = ap (λ (w : Bool). cond w (given y) (refused 16)) (sym q) ∙ limited
+
+pub ruleset withins = (means-so, means-not, rules)

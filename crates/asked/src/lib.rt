@@ -5,10 +5,10 @@ ghost use Rattle.std.specs.Prelude.{◌≡◌};
 ghost use Rattle.number.specs.Told.{scaled};
 ghost use Rattle.cell.specs.Kind.{shape_of};
 ghost use Rattle.convert.specs.Edition.{halves_of};
-ghost use Rattle.convert.specs.Asked.{means_within, limited_raw, asked_raw};
+ghost use Rattle.convert.specs.Asked.{means_within, asked_raw};
 ghost use Rattle.convert.specs.Told.{told_raw};
 
-use convert::asked::{OUTSIDE_LIMITS, RawAnswer, rounded_raw};
+use convert::asked::{RawRefusal, rounded_raw};
 use convert::fraction::NUMBER;
 use convert::method::Coefficients;
 use fraction::fraction::fraction_of;
@@ -27,21 +27,6 @@ pub fn means_within(lower: Decimal, upper: Decimal, k: Coefficients, raw: i64) -
     false
 }
 
-// A raw number where what it means lies within the limits.
-fn limited(answer: RawAnswer, lower: Decimal, upper: Decimal, k: Coefficients) -> RawAnswer
-    ensures { told_raw result ≡ limited_raw (scaled lower) (scaled upper) k (told_raw answer) }
-{
-    match answer {
-        RawAnswer::Raw(raw) => {
-            if means_within(lower, upper, k, raw) {
-                return RawAnswer::Raw(raw);
-            }
-            RawAnswer::Refused { no: OUTSIDE_LIMITS }
-        }
-        RawAnswer::Refused { no } => RawAnswer::Refused { no },
-    }
-}
-
 // The raw number that an asked text stores by an edition: form, limits, coefficients, type and mask, and then the limits on what it means.
 pub fn asked_raw(
     edition: u64,
@@ -51,9 +36,12 @@ pub fn asked_raw(
     k: Coefficients,
     kind: u64,
     mask: u64,
-) -> RawAnswer
+) -> Result<i64, RawRefusal>
     ensures { told_raw result ≡ asked_raw (halves_of edition) (scaled lower) (scaled upper) k (shape_of kind) mask asked.now }
 {
-    let answer = rounded_raw(edition, asked, lower, upper, k, kind, mask);
-    limited(answer, lower, upper, k)
+    let raw = rounded_raw(edition, asked, lower, upper, k, kind, mask)?;
+    if means_within(lower, upper, k, raw) {
+        return Ok(raw);
+    }
+    Err(RawRefusal::OutsideLimits)
 }

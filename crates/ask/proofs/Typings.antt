@@ -19,8 +19,9 @@ use Rattle.number.specs.Digits.{digit_of, value_on, all_digits}
 use Rattle.number.specs.Decimal.{signs, minus}
 use Rattle.number.specs.Whole.{whole_from, whole_of}
 use Rattle.number.specs.Told.{told_whole}
-use Rattle.number.specs.declared.whole.WholeAnswer.{WholeAnswer}
-use Rattle.number.specs.declared.whole.WholeAnswer.TheVariants as whole
+use Rattle.number.specs.declared.digits.NoForm.{NoForm}
+use Rattle.std.specs.Prelude.{Option, Some, None, Result, Ok, Err}
+use Rattle.std.specs.Result.{result_ok}
 use Rattle.number.specs.Signed.{signed_of, most_signed}
 use Rattle.ask.specs.Typed.{part_of, with_sign, raw_typed}
 
@@ -92,20 +93,29 @@ size_is s neg at most r b c e =
 
 pub ruleset sizes = (size_is, rules)
 
+-- a number that there is, or none
+pub ok-some : (r : Result ℕ NoForm) (n : ℕ) → result_ok r ≡ Some n → r ≡ Ok n
+ok-some (Ok m) n e = cc
+ok-some (Err x) n e = cc
+
+pub ok-none : (r : Result ℕ NoForm) → result_ok r ≡ None → r ≡ Err (record {})
+ok-none (Ok m) e = cc
+ok-none (Err x) e = refl
+
 -- r is what `size_of` gave
-module _ (s : List ℕ) (neg : Bool) (a : neg ≡ minus s) (r : WholeAnswer) (e : told_whole r ≡ whole_from 10 (most_signed neg) (drop (signs s) s)) where
+module _ (s : List ℕ) (neg : Bool) (a : neg ≡ minus s) (r : Result ℕ NoForm) (e : told_whole r ≡ whole_from 10 (most_signed neg) (drop (signs s) s)) where
   typed : raw_typed s ≡ with_sign neg (told_whole r)
   unfolding raw_typed
   typed = rw (← a, e)
 
-  pub raw-none : (k : ℕ) → r ≡ whole.Refused k → refused 15 ≡ raw_typed s
-  raw-none k h = sym (typed ∙ ap (λ (x : WholeAnswer). with_sign neg (told_whole x)) h)
+  pub raw-none : (k : NoForm) → r ≡ Err k → refused 15 ≡ raw_typed s
+  raw-none k h = sym (typed ∙ ap (λ (x : Result ℕ NoForm). with_sign neg (told_whole x)) h)
 
-  module _ (n : ℕ) (h : r ≡ whole.Number n) where
+  module _ (n : ℕ) (h : r ≡ Ok n) where
     pub raw-low : n ≤ most_signed neg
     raw-low = at_most (most_signed neg) n (drop (signs s) s) (sym (ap told_whole h) ∙ e)
 
     pub raw-given : (z : ℤ) → mag z < 2 ^ 63 → z ≡ signed_of neg n → given (to_z w64 (of_z w64 z)) ≡ raw_typed s
-    raw-given z l q = ap given (to_z-of_z {w = w64} (record { sfits = l }) ∙ q) ∙ sym (typed ∙ ap (λ (x : WholeAnswer). with_sign neg (told_whole x)) h)
+    raw-given z l q = ap given (to_z-of_z {w = w64} (record { sfits = l }) ∙ q) ∙ sym (typed ∙ ap (λ (x : Result ℕ NoForm). with_sign neg (told_whole x)) h)
 
-pub ruleset raws = (raw-none, raw-low, raw-given, rules)
+pub ruleset raws = (raw-low, rules)

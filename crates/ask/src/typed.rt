@@ -8,74 +8,48 @@ ghost use Rattle.ask.specs.Typed.{part_of, raw_typed};
 ghost use Rattle.ask.specs.Told.{told_typed};
 
 use number::decimal::{is_minus, sign_len};
-use number::digits::NO_FORM;
+use number::digits::NoForm;
 use number::signed::{most_signed, with_sign};
-use number::whole::WholeAnswer;
 use runs::whole::whole_of;
 
-// The letters of the parts, and what any other word is.
-const LETTER_X: u8 = 120;
-
-const LETTER_Y: u8 = 121;
-
-const LETTER_V: u8 = 118;
-
+// What a word is that names no part.
 const NO_PART: u8 = 3;
-
-// The second byte of a hex number, which no raw number is.
-const HEX_MARK: u8 = 120;
-
-// A raw number, or a word that writes none.
-#[derive(Clone, Copy)]
-pub enum RawTyped {
-    Number(i64),
-    Nothing,
-}
 
 // The part that a letter names: x is 0, y is 1, v is 2; any other word is 3.
 pub fn part_of(s: &[u8]) -> u8
     ensures { result ≡ part_of s.now }
 {
-    if s.len() != 1 {
-        return NO_PART;
-    }
-    match s[0] {
-        LETTER_X => 0,
-        LETTER_Y => 1,
-        LETTER_V => 2,
+    match s {
+        [b'x'] => 0,
+        [b'y'] => 1,
+        [b'v'] => 2,
         _ => NO_PART,
     }
 }
 
-// The whole number that decimal digits write, at most most.
-fn digits_of(s: &[u8], most: u64) -> WholeAnswer
+// The whole number that decimal digits write, at most most. (No raw number is hex.)
+fn digits_of(s: &[u8], most: u64) -> Result<u64, NoForm>
     ensures { told_whole result ≡ whole_from 10 most s.now }
 {
-    if s.len() < 2 {
-        return whole_of(s, most);
+    match s {
+        [_, b'x', ..] => Err(NoForm),
+        _ => whole_of(s, most),
     }
-    if s[1] == HEX_MARK {
-        return WholeAnswer::Refused { no: NO_FORM };
-    }
-    whole_of(s, most)
 }
 
 // The size that a word writes after its sign, at most what an i64 has.
-fn size_of(s: &[u8], negative: bool) -> WholeAnswer
+fn size_of(s: &[u8], negative: bool) -> Result<u64, NoForm>
     ensures { told_whole result ≡ whole_from 10 (most_signed negative) (drop (signs s.now) s.now) }
 {
     let at = sign_len(s);
     digits_of(&s[at..], most_signed(negative))
 }
 
-// The raw number that a word writes.
-pub fn raw_typed(s: &[u8]) -> RawTyped
+// The raw number that a word writes, or none.
+pub fn raw_typed(s: &[u8]) -> Option<i64>
     ensures { told_typed result ≡ raw_typed s.now }
 {
     let negative = is_minus(s);
-    let size = size_of(s, negative);
-    let WholeAnswer::Number(n) = size else {
-        return RawTyped::Nothing;
-    };
-    RawTyped::Number(with_sign(negative, n))
+    let n = size_of(s, negative).ok()?;
+    Some(with_sign(negative, n))
 }

@@ -2,7 +2,6 @@
 use crate::called::{edition_at, has_edition, is_same, minus, word_at, word_count};
 use crate::sizes::{WORD_ROOM, front};
 use convert::edition::EDITION_ONE;
-use number::whole::WholeAnswer;
 use runs::whole::whole_of;
 use std::rt::Env;
 
@@ -50,12 +49,6 @@ pub enum Command {
     Get,
     Set,
     Apply,
-}
-
-#[derive(Clone, Copy)]
-pub enum NumberTyped {
-    Number(u32),
-    Nothing,
 }
 
 // A base address that is typed: one below 2^32, a number of 2^32 or more, or no number.
@@ -168,13 +161,13 @@ fn is_large(word: &[u8]) -> bool {
 // The base address that a word writes.
 fn base_of(word: &[u8]) -> BaseTyped {
     match whole_of(word, MOST_TYPED) {
-        WholeAnswer::Number(b) => {
+        Ok(b) => {
             if b <= MOST_BASE {
                 return BaseTyped::Address((b % 4294967296) as u32);
             }
             BaseTyped::TooLarge
         }
-        WholeAnswer::Refused { no: _ } => {
+        Err(_) => {
             if is_large(word) {
                 return BaseTyped::TooLarge;
             }
@@ -193,8 +186,8 @@ pub fn base_typed(rt: &impl Env) -> BaseTyped {
 // The edition that a word names; one that there is not where it is no number, or greater than 32 bits hold.
 fn edition_of(word: &[u8]) -> u32 {
     match whole_of(word, MOST_EDITION) {
-        WholeAnswer::Number(e) => (e % 4294967296) as u32,
-        WholeAnswer::Refused { no: _ } => NO_EDITION,
+        Ok(e) => (e % 4294967296) as u32,
+        Err(_) => NO_EDITION,
     }
 }
 
@@ -209,14 +202,10 @@ pub fn edition_typed(rt: &impl Env) -> u32 {
 }
 
 // The index that a word names; one that no element has where it is greater than 32 bits hold.
-pub fn index_of(word: &[u8]) -> NumberTyped {
-    match whole_of(word, MOST_TYPED) {
-        WholeAnswer::Number(i) => {
-            if i < MOST_INDEX {
-                return NumberTyped::Number((i % 4294967296) as u32);
-            }
-            NumberTyped::Number(4294967295)
-        }
-        WholeAnswer::Refused { no: _ } => NumberTyped::Nothing,
+pub fn index_of(word: &[u8]) -> Option<u32> {
+    let i = whole_of(word, MOST_TYPED).ok()?;
+    if i < MOST_INDEX {
+        return Some((i % 4294967296) as u32);
     }
+    Some(4294967295)
 }

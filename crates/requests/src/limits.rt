@@ -2,7 +2,7 @@
 use cell::size::size;
 use console::ending::{Ending, say, say_number};
 use console::message::{refused, say_refused};
-use convert::asked::{OUTSIDE_LIMITS, RawAnswer};
+use convert::asked::RawRefusal;
 use convert::fraction::{NUMBER, Physical};
 use look::meaning::means;
 use std::io;
@@ -38,10 +38,10 @@ fn say_stored(rt: &impl Print, raw: i64, p: Physical) -> io::Result<()> {
 
 // Says why a write of a physical value to group g was refused by 16.
 fn refused_limits(rt: &impl Print, t: &[u64], g: u16, asked: &[u8]) -> io::Result<Ending> {
-    say_refused(rt, OUTSIDE_LIMITS)?;
+    say_refused(rt, RawRefusal::OutsideLimits.number())?;
     match raw_rounded(t, g, asked) {
-        RawAnswer::Raw(raw) => say_stored(rt, raw, means(t, g, raw))?,
-        RawAnswer::Refused { no: _ } => say_asked(rt)?,
+        Ok(raw) => say_stored(rt, raw, means(t, g, raw))?,
+        Err(_) => say_asked(rt)?,
     }
     Ok(Ending::Refused)
 }
@@ -54,7 +54,7 @@ pub fn refused_write(
     asked: &[u8],
     no: u8,
 ) -> io::Result<Ending> {
-    if no == OUTSIDE_LIMITS {
+    if no == RawRefusal::OutsideLimits.number() {
         return refused_limits(rt, t, g, asked);
     }
     refused(rt, no)

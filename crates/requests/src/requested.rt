@@ -1,6 +1,6 @@
 // The element and the write that a person names.
-use ask::typed::{RawTyped, part_of, raw_typed};
-use console::arguments::{NumberTyped, index_of};
+use ask::typed::{part_of, raw_typed};
+use console::arguments::index_of;
 use console::called::is_same;
 use console::ending::{Ending, Errors, complain};
 use console::message::refused;
@@ -47,7 +47,7 @@ pub fn element_named(
     part: &[u8],
     index: &[u8],
 ) -> io::Result<ElementTyped> {
-    let NumberTyped::Number(i) = index_of(index) else {
+    let Some(i) = index_of(index) else {
         return Ok(ElementTyped::Wrong { why: NO_INDEX });
     };
     match search(x, image, base, t, name) {
@@ -109,11 +109,8 @@ pub fn error_of(rt: &impl Errors, why: u8, name: &[u8], index: &[u8], way: &[u8]
 }
 
 // The raw number of a value that is written raw, nothing of any other.
-fn typed_of(is_raw: bool, value: &[u8]) -> RawTyped {
-    if is_raw {
-        return raw_typed(value);
-    }
-    RawTyped::Nothing
+fn typed_of(is_raw: bool, value: &[u8]) -> Option<i64> {
+    if is_raw { raw_typed(value) } else { None }
 }
 
 // The physical value that is asked: a raw one that is no number asks for nothing, which has no form.
@@ -141,10 +138,10 @@ pub fn write_one(
     value: &[u8],
 ) -> CallAnswer {
     match typed_of(is_raw, value) {
-        RawTyped::Number(z) => write_raw(
+        Some(z) => write_raw(
             x, image, base, t, raw, state, first, second, object, part, index, z,
         ),
-        RawTyped::Nothing => write_physical(
+        None => write_physical(
             x,
             image,
             base,

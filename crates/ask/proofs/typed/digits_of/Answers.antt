@@ -1,21 +1,10 @@
 -- `digits_of` meets its contract.
 use Rattle.ask.proofs.Typings.{digit-runs}
+use Rattle.ask.proofs.typed.digits_of.Goals.{in_default-via-then-s-lt2, in_default-via-else-s-lt2+in_default-1}
 use Rattle.ask.proofs.typed.digits_of.Goals as goal
 
-pub whole_of-requires : goal.whole_of-requires
-whole_of-requires c = search digit-runs
+pub returns-in-120 : goal.returns-in-120
+returns-in-120 c = search digit-runs
 
-pub returns-then-s-lt2 : goal.returns-then-s-lt2
-returns-then-s-lt2 c = search digit-runs
-
-pub bounds-s-1 : goal.bounds-s-1
-bounds-s-1 c = search digit-runs
-
-pub returns-then-s-eq-HEX_MARK : goal.returns-then-s-eq-HEX_MARK
-returns-then-s-eq-HEX_MARK c = search digit-runs
-
-pub whole_of-requires-2 : goal.whole_of-requires-2
-whole_of-requires-2 c = search digit-runs
-
-pub returns : goal.returns
-returns c = search digit-runs
+pub returns-in_default : goal.returns-in_default
+returns-in_default c = elim c.in_default.branch [ in_default-via-then-s-lt2 w ↦ search digit-runs | in_default-via-else-s-lt2+in_default-1 w ↦ search digit-runs ]

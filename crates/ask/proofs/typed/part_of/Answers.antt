@@ -2,12 +2,6 @@
 use Rattle.ask.proofs.Typings.{part-letters}
 use Rattle.ask.proofs.typed.part_of.Goals as goal
 
-pub returns-then-s-ne1 : goal.returns-then-s-ne1
-returns-then-s-ne1 c = search part-letters
-
-pub bounds-s-0 : goal.bounds-s-0
-bounds-s-0 c = search part-letters
-
 pub returns-in-120 : goal.returns-in-120
 returns-in-120 c = search part-letters
 
@@ -19,3 +13,9 @@ returns-in-118 c = search part-letters
 
 pub returns-in_default : goal.returns-in_default
 returns-in_default c = search part-letters
+
+pub returns-in_default-2 : goal.returns-in_default-2
+returns-in_default-2 c = search part-letters
+
+pub returns-in_default-3 : goal.returns-in_default-3
+returns-in_default-3 c = search part-letters

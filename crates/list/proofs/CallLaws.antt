@@ -8,9 +8,9 @@ use lib.Dec.{leb}
 use lib.IntN.{ℤ}
 use mir.Facts.{to_z-of_z}
 use Rattle.number.specs.Answer.{Answer, given}
-use Rattle.convert.specs.Told.{told_raw}
-use Rattle.convert.specs.declared.asked.RawAnswer.{RawAnswer}
-use Rattle.convert.specs.declared.asked.RawAnswer.TheVariants as wanted
+use Rattle.convert.specs.Told.{raw_refusal_number, told_raw}
+use Rattle.convert.specs.declared.asked.RawRefusal.{RawRefusal}
+use Rattle.std.specs.Prelude.{Result, Ok, Err}
 use Rattle.tables.specs.Form.{tables_in, total}
 use Rattle.number.specs.Below.{sum_below}
 use Rattle.tables.specs.Group.{group_of, elements, bytes, place_of}
@@ -103,11 +103,11 @@ pub store_is : (t image image' : List ℕ) (r : List ℤ) (s : List ℕ) (a b : 
 unfolding written_to refreshed
 store_is t image image' r s a b k' g i p w z y e h pp pw q = q ∙ rw (e, h, pp, pw)
 
-pub carried : (k k' : Kept) (f : ℤ → Kept) (x : RawAnswer) (z y : ℤ) → x ≡ wanted.Raw z → y ≡ z → k' ≡ f y → after call.Done k' ≡ afterwards (told_raw x) k f
+pub carried : (k k' : Kept) (f : ℤ → Kept) (x : Result ℤ RawRefusal) (z y : ℤ) → x ≡ Ok z → y ≡ z → k' ≡ f y → after call.Done k' ≡ afterwards (told_raw x) k f
 carried k k' f x z y e h q = rw (q, h, e)
 
-pub not_carried : (k : Kept) (f : ℤ → Kept) (x : RawAnswer) (n : ℕ) → x ≡ wanted.Refused n → after (call.Refused n) k ≡ afterwards (told_raw x) k f
-not_carried k f x n e = rw e
+pub not_carried : (k : Kept) (f : ℤ → Kept) (x : Result ℤ RawRefusal) (r : RawRefusal) (n : ℕ) → x ≡ Err r → n ≡ raw_refusal_number r → after (call.Refused n) k ≡ afterwards (told_raw x) k f
+not_carried k f x r n e h = rw (e, h)
 
 pub ruleset stores = (store_is, rules)
 

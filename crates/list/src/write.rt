@@ -8,7 +8,7 @@ ghost use Rattle.look.specs.Calls.{kept, room, groups, raw_number, physical_text
 ghost use Rattle.look.specs.Told.{after};
 
 use crate::store::store;
-use convert::asked::RawAnswer;
+use convert::asked::RawRefusal;
 use look::call::CallAnswer;
 use look::check::group_of;
 use look::room::{is_enough, room_of};
@@ -25,7 +25,7 @@ pub fn carry_out(
     second: &mut [i64],
     g: u16,
     i: u32,
-    answer: RawAnswer,
+    answer: Result<i64, RawRefusal>,
 ) -> CallAnswer
     requires { sum_below (groups t.now) (elements (tables_in t.now)) ≤ room (kept image.old raw.old state.old first.old second.old) }
     ensures { after result (kept image.new raw.new state.new first.new second.new)
@@ -33,11 +33,13 @@ pub fn carry_out(
         (written_to t.now g i (kept image.old raw.old state.old first.old second.old)) }
 {
     match answer {
-        RawAnswer::Raw(z) => {
+        Ok(z) => {
             store(t, image, raw, state, first, second, g, i, z);
             CallAnswer::Done
         }
-        RawAnswer::Refused { no } => CallAnswer::Refused { no },
+        Err(refusal) => CallAnswer::Refused {
+            no: refusal.number(),
+        },
     }
 }
 

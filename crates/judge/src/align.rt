@@ -35,10 +35,5 @@ pub fn align_up(align: u8, n: u64) -> u64
     if align == 0 {
         return n;
     }
-    let w = align as u64;
-    let r = n % w;
-    if r == 0 {
-        return n;
-    }
-    n + (w - r)
+    n.next_multiple_of(align as u64)
 }

@@ -20,8 +20,7 @@ fn bytes_of(e: Entry, count: u64) -> u64
     requires { count ≤ 2 ^ 32 }
     ensures { result ≡ bytes_of e count }
 {
-    let t = shape_of(e.kind);
-    let w = t.bytes as u64;
+    let w = shape_of(e.kind).bytes as u64;
     w * count
 }
 
@@ -54,15 +53,9 @@ fn are_inside(image: &[u8], base: u32, n: Need, l: Layout, p: Places) -> bool
 {
     let x = p.cx as u64;
     let y = p.cy as u64;
-    let ex = l.x;
-    let ey = l.y;
-    let ev = l.values;
-    let bx = bytes_of(ex, x);
-    let by = bytes_of(ey, y);
-    let bv = bytes_of(ev, x * y);
-    let a = is_inside(image, base, p.x, bx);
-    let b = is_inside(image, base, p.y, by);
-    let c = is_inside(image, base, p.values, bv);
+    let a = is_inside(image, base, p.x, bytes_of(l.x, x));
+    let b = is_inside(image, base, p.y, bytes_of(l.y, y));
+    let c = is_inside(image, base, p.values, bytes_of(l.values, x * y));
     (!n.x.stored | a) & (!n.y.stored | b) & (!n.values | c)
 }
 

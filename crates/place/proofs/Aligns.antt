@@ -1,5 +1,5 @@
 -- Alignment, by the tests that the code makes; and `aligned` is the least address from n on that the alignment divides.
-use Prim.Native.Nat.{ℕ, zero, suc, ◌+◌, ◌*◌, ◌-◌, ◌/◌, ◌%◌, ◌<◌, ◌≤◌}
+use Prim.Native.Nat.{ℕ, zero, suc, ◌+◌, ◌*◌, ◌-◌, ◌/◌, ◌%◌, ◌^◌, ◌<◌, ◌≤◌}
 use native.Mathlib.Nat.{div-add-mod', mod-lt, mod-eq_of_lt, mul-add-mod_self_right, mod_self}
 use native.Mathlib.Omega.{arith}
 use mathlib.Core.Path.{◌≡◌, refl, sym, ◌∙◌, ap}
@@ -76,9 +76,6 @@ module _ (a n : ℕ) where
   pub align_is : n % a ≡ 0 → n ≡ aligned a n
   align_is e = align-is' a e
 
-  pub align-rest : (a ≡ 0 → ⊥) → n % a ≤ a
-  align-rest z = let h : n % a < a = mod-lt n (omega arith) in omega arith
-
   pub align-up : (a ≡ 0 → ⊥) → (n % a ≡ 0 → ⊥) → n + (a - n % a) ≡ aligned a n
   unfolding aligned
   align-up z e =
@@ -88,7 +85,26 @@ module _ (a n : ℕ) where
       let g : n + (a - n % a) ≡ n / a * a + a = omega arith in
       g ∙ sym u ∙ ap (λ (x : ℕ). next_from a a x) d
 
-pub ruleset ups = (align-none, align_is, align-rest, align-up, rules)
+  next-turn : (t : Bool) → eqb (n % a) 0 ≡ t → (a ≡ 0 → ⊥) → n + (a - n % a) % a ≡ aligned a n
+  next-turn true e z =
+      let d = eqb-true (n % a) 0 e in
+      let f : a - 0 ≡ a = omega arith in
+      let g : n + 0 ≡ n = omega arith in
+      rw (d, f, mod_self a, g) (align_is d)
+  next-turn false e z =
+      let d = eqb-false (n % a) 0 e in
+      let h : n % a < a = mod-lt n (omega arith) in
+      let l : a - n % a < a = omega arith in
+      rw (mod-eq_of_lt l) (align-up z d)
+
+  -- std's next multiple
+  pub align-next : (a ≡ 0 → ⊥) → n + (a - n % a) % a ≡ aligned a n
+  align-next z = next-turn (eqb (n % a) 0) refl z
+
+  pub next-low : (a ≡ 0 → ⊥) → a < 256 → n < 2 ^ 63 → n + (a - n % a) % a < 2 ^ 64
+  next-low z l h = let m : (a - n % a) % a < a = mod-lt (a - n % a) (omega arith) in omega arith
+
+pub ruleset ups = (align-none, align-next, next-low, rules)
 
 -- no address from n on that a divides is below `aligned a n`
 least-turn : (t : Bool) (a n m k : ℕ) → eqb (n % a) 0 ≡ t → (n + 1 ≤ m → k ≤ m) → n ≤ m → m % a ≡ 0 → cond t n k ≤ m

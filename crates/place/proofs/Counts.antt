@@ -12,7 +12,7 @@ use lib.IntN.{ℤ, pos, negsuc, nat_abs}
 use lib.ListN.{length}
 use lib.Signed.{lt_z, mag}
 use mir.Syntax.{w64}
-use mir.Val.{Fits, SFits}
+use mir.Val.{SFits}
 use mir.Facts.{to_z-of_z}
 use Rattle.number.specs.Answer.{Answer, given, refused}
 use Rattle.cell.specs.Kind.{shape_of}
@@ -149,35 +149,6 @@ module _ (align : ℕ) (s : Reached) where
 
 pub ruleset starts = (start_first, start-later, start-near, rules)
 
--- elements: sizes to 4, counts below 2^16, starts below 2^63
+-- counts below 2^16
 pub square : (a b : ℕ) → a < 65536 → b < 65536 → a * b ≤ 65536 * 65536
 square a b f g = let k : a ≤ 65536 = omega arith in let l : b ≤ 65536 = omega arith in mul-le-mul k l
-
-pub all_small_lem : (w a b : ℕ) → w ≤ 4 → a < 65536 → b < 65536 → w * (a * b) ≤ 17179869184
-all_small_lem w a b h f g = let p = square a b f g in mul-le-mul h p
-
-pub one-small : (w a : ℕ) → w ≤ 4 → a < 65536 → w * a ≤ 17179869184
-one-small w a h f = let l : a ≤ 65536 = omega arith in let p : w * a ≤ 4 * 65536 = mul-le-mul h l in omega arith
-
-pub fits-two : (a b : ℕ) → a < 65536 → b < 65536 → Fits w64 (a * b)
-fits-two a b f g = let p = square a b f g in record { fits = omega arith }
-
-pub fits_all : (w a b : ℕ) → w ≤ 4 → a < 65536 → b < 65536 → Fits w64 (w * (a * b))
-fits_all w a b h f g = record { fits = omega (arith, all_small_lem w a b h f g) }
-
-pub fits_one : (w a : ℕ) → w ≤ 4 → a < 65536 → Fits w64 (w * a)
-fits_one w a h f = record { fits = omega (arith, one-small w a h f) }
-
-pub past_all : (at w a b : ℕ) → at < 2 ^ 63 → w ≤ 4 → a < 65536 → b < 65536 → Fits w64 (at + w * (a * b))
-past_all at w a b l h f g = record { fits = omega (arith, all_small_lem w a b h f g) }
-
-pub past_one : (at w a : ℕ) → at < 2 ^ 63 → w ≤ 4 → a < 65536 → Fits w64 (at + w * a)
-past_one at w a l h f = record { fits = omega (arith, one-small w a h f) }
-
-pub near-all : (at w a b : ℕ) → w ≤ 4 → a < 65536 → b < 65536 → at + w * (a * b) ≤ at + 17179869184
-near-all at w a b h f g = omega (arith, all_small_lem w a b h f g)
-
-pub near-one : (at w a : ℕ) → w ≤ 4 → a < 65536 → at + w * a ≤ at + 17179869184
-near-one at w a h f = omega (arith, one-small w a h f)
-
-pub ruleset sizes = (fits-two, fits_all, fits_one, past_all, past_one, near-all, near-one, rules)

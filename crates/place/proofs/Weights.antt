@@ -36,15 +36,6 @@ byte-count t e k q = rw q
 pub fits-bytes : (w k : ℕ) → w ≤ 4 → k ≤ 2 ^ 32 → Fits w64 (w * k)
 fits-bytes w k h l = let p : w * k ≤ 4 * 2 ^ 32 = mul-le-mul h l in record { fits = omega arith }
 
-pub fits-square : (a b : ℕ) → a < 65536 → b < 65536 → Fits w64 (a * b)
-fits-square a b f g = record { fits = omega (arith, square a b f g) }
-
-pub low-square : (a b : ℕ) → a < 65536 → b < 65536 → a * b ≤ 2 ^ 32
-low-square a b f g = square a b f g
-
-pub low-one : (a : ℕ) → a < 65536 → a ≤ 2 ^ 32
-low-one a f = omega arith
-
 pub sum_is : (n : Need) (p : Places) (x y v : ℕ) → x ≡ cond n.x.stored p.cx 0 → y ≡ cond n.y.stored p.cy 0 → v ≡ cond n.values (p.cx * p.cy) 0
     → x + y + v ≡ elements_stored n p
 unfolding elements_stored
@@ -54,10 +45,7 @@ module _ (cx cy x y v : ℕ) (hx : cx < 65536) (hy : cy < 65536) (lx : x ≤ cx)
   pub sum_low : v ≤ cx * cy → x + y + v ≤ 2 ^ 33
   sum_low l = omega (arith, square cx cy hx hy)
 
-  pub sum_fits : v ≤ cx * cy → Fits w64 (x + y + v)
-  sum_fits l = record { fits = omega (arith, square cx cy hx hy) }
-
-pub ruleset sums = (bytes-of, byte-count, fits-bytes, fits-square, low-square, low-one, sum_is, sum_low, sum_fits, rules)
+pub ruleset sums = (bytes-of, byte-count, fits-bytes, sum_is, sum_low, rules)
 
 pub all-inside : (image : List ℕ) (base : ℕ) (n : Need) (l : Layout) (p : Places) (a b c : Bool) (x y v : ℕ)
     → x ≡ bytes_of l.x p.cx → y ≡ bytes_of l.y p.cy → v ≡ bytes_of l.values (p.cx * p.cy)

@@ -5,14 +5,14 @@ use asked::asked_raw;
 use cell::kind::{SWORD, UBYTE, UWORD};
 use cell::raw::{fits_raw, read_raw, write_raw};
 use cell::size::size;
-use convert::asked::RawAnswer;
+use convert::asked::RawRefusal;
 use convert::edition::{EDITION_ONE, EDITION_TWO};
 use convert::fraction::{NUMBER, Physical};
-use convert::method::{Coefficients, MethodAnswer, identical, linear, rat_func};
+use convert::method::{Coefficients, NoConversion, identical, linear, rat_func};
 use decimals::decimal_of;
 use fraction::fraction::fraction_of;
 use judge::judge::judge_object;
-use number::decimal::{Decimal, DecimalAnswer};
+use number::decimal::Decimal;
 use place::order::{Aligns, Entry, Layout};
 use place::rules::{Axis, Need};
 use place::walk::Ground;
@@ -20,15 +20,11 @@ use std::io;
 
 // The decimal that a text writes, 0 where it writes none.
 fn decimal(s: &[u8]) -> Decimal {
-    let answer = decimal_of(s);
-    let DecimalAnswer::Number(d) = answer else {
-        return Decimal {
-            negative: false,
-            whole: 0,
-            tens: 0,
-        };
-    };
-    d
+    decimal_of(s).unwrap_or(Decimal {
+        negative: false,
+        whole: 0,
+        tens: 0,
+    })
 }
 
 // Prints a whole number.
@@ -57,19 +53,20 @@ fn print_physical(rt: &impl Print, p: Physical) -> io::Result<()> {
 }
 
 // Prints what a raw number shows by a conversion.
-fn shown(rt: &impl Print, answer: MethodAnswer, raw: i64) -> io::Result<()> {
+fn shown(
+    rt: &impl Print,
+    answer: Result<Coefficients, NoConversion>,
+    raw: i64,
+) -> io::Result<()> {
     match answer {
-        MethodAnswer::Whole(k) => print_physical(rt, fraction_of(k, raw)),
-        MethodAnswer::Refused { no } => print_refusal(rt, no),
+        Ok(k) => print_physical(rt, fraction_of(k, raw)),
+        Err(NoConversion) => print_refusal(rt, 10),
     }
 }
 
 // The coefficients of a conversion, those of IDENTICAL where it is refused.
-fn coefficients(answer: MethodAnswer) -> Coefficients {
-    let MethodAnswer::Whole(k) = answer else {
-        return identical();
-    };
-    k
+fn coefficients(answer: Result<Coefficients, NoConversion>) -> Coefficients {
+    answer.unwrap_or(identical())
 }
 
 // Prints which raw number an asked value stores by an edition.
@@ -90,11 +87,11 @@ fn stored(
         0,
     );
     match answer {
-        RawAnswer::Raw(raw) => {
+        Ok(raw) => {
             rt.print(" ")?;
             print_whole(rt, raw)
         }
-        RawAnswer::Refused { no } => print_refusal(rt, no),
+        Err(refusal) => print_refusal(rt, refusal.number()),
     }
 }
 
@@ -110,12 +107,12 @@ fn left(rt: &impl Print, high: u8, low: u8, mask: u64, raw: i64) -> io::Result<(
         write_raw(&mut image, 0, UWORD, true, mask, raw);
         print_address(rt, size(read_raw(&image, 0, UWORD, true, 0)))
     } else {
-        print_refusal(rt, convert::asked::NO_FIT)
+        print_refusal(rt, RawRefusal::NoFit.number())
     }
 }
 
 // P1: COEFFS 0 1000 0 0 0 1.
-fn first() -> MethodAnswer {
+fn first() -> Result<Coefficients, NoConversion> {
     rat_func(
         decimal(b"1000"),
         decimal(b"0"),
@@ -125,7 +122,7 @@ fn first() -> MethodAnswer {
 }
 
 // P4: COEFFS 0 0 60 0 1 0.
-fn fourth() -> MethodAnswer {
+fn fourth() -> Result<Coefficients, NoConversion> {
     rat_func(decimal(b"0"), decimal(b"60"), decimal(b"1"), decimal(b"0"))
 }
 

@@ -156,7 +156,7 @@ fn put_x(u: &mut [u64], x: &[u8], t: &[u64], base: u32, i: u16, o: Known)
     put_none(u);
 }
 
-// The y points of object i.
+// The y points of object i. One function for x and y would take what they differ in, fields of four structs, as parameters.
 fn put_y(u: &mut [u64], x: &[u8], t: &[u64], base: u32, i: u16, o: Known)
     ensures { u.new ≡ row_in u.old group_section (y_part base x.now (view_in t.now) i o) }
 {

@@ -2,6 +2,7 @@
 // A line `====` parts two descriptions; the line ends before and after it belong to it. The last description may have one after it too.
 #![tactic(auto)]
 
+use cases::{PART_BYTES, part_end};
 use engine::read::read;
 use grammar::view::{AXIS, ENTRY, LAYOUT, METHOD, OBJECT, TABLE, count_of};
 use std::io;
@@ -12,14 +13,6 @@ const TEXT_BYTES: usize = 40960;
 
 // How many cells the records take: grammar's ROOM.
 const CELLS: usize = 42578;
-
-// A line feed, and the byte that a parting line has four times.
-const LF: u8 = 10;
-
-const EQUALS: u8 = 61;
-
-// The bytes of a parting line with the line ends before and after it.
-const PART_BYTES: usize = 6;
 
 // Writes a word and a number.
 fn print_words(rt: &impl Print, word: &str, n: u64) -> io::Result<()> {
@@ -59,34 +52,8 @@ fn print_described(rt: &impl Print, x: &[u8], n: usize) -> io::Result<()> {
     rt.print("\n")
 }
 
-// Whether a parting line, with a line end before and after it, stands at a place.
-fn parts_at(s: &[u8], at: usize) -> bool {
-    if at > s.len() {
-        return false;
-    }
-    let r = &s[at..];
-    if r.len() < PART_BYTES {
-        return false;
-    }
-    if (r[0] != LF) | (r[5] != LF) {
-        return false;
-    }
-    (r[1] == EQUALS) & (r[2] == EQUALS) & (r[3] == EQUALS) & (r[4] == EQUALS)
-}
-
-// Where the next parting line from a place on starts, or the text's end.
-fn part_end(s: &[u8], from: usize) -> usize {
-    let mut at = from;
-    while at < s.len() {
-        if parts_at(s, at) {
-            return at;
-        }
-        at = at + 1;
-    }
-    s.len()
-}
-
-// Writes the lines of all descriptions. A parting line never lies before the place it is sought from, so the first two tests never stop the loop.
+// Writes the lines of all descriptions; where the next one starts is what this one's end says, so that no range goes over them.
+// A parting line never lies before the place it is sought from, so the first two tests never stop the loop.
 fn print_all(rt: &impl Print, s: &[u8]) -> io::Result<()> {
     let mut from: usize = 0;
     let mut n: usize = 1;
@@ -95,7 +62,7 @@ fn print_all(rt: &impl Print, s: &[u8]) -> io::Result<()> {
         if end < from {
             return Ok(());
         }
-        if end > s.len() {
+        if s.len() < end {
             return Ok(());
         }
         print_described(rt, &s[from..end], n)?;
@@ -103,7 +70,7 @@ fn print_all(rt: &impl Print, s: &[u8]) -> io::Result<()> {
             return Ok(());
         }
         from = end + PART_BYTES;
-        n = n + 1;
+        n += 1;
     }
     Ok(())
 }

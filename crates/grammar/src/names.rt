@@ -16,23 +16,18 @@ pub fn find(x: &[u8], t: &[u64], j: u8, a: usize, e: usize) -> Option<u16>
         return None;
     }
     let c = section_of(j);
-    let count = records::count(t, c);
     let n = e - a;
     let first = byte_at(x, a);
     let last = byte_at(x, one_before(e));
-    let mut i: u16 = 0;
     let mut at = (c.base as usize) + 1;
-    'records: loop {
-        if count <= i {
-            break None;
-        }
+    for i in 0..records::count(t, c) {
         let from = get(t, at) as usize;
         let to = get(t, at + 1) as usize;
         if is_like(x, from, to, n, last) {
             let mut k = n;
             loop {
                 if k == 0 {
-                    break 'records Some(i);
+                    return Some(i);
                 }
                 if byte_at(x, from) != first {
                     break;
@@ -44,6 +39,6 @@ pub fn find(x: &[u8], t: &[u64], j: u8, a: usize, e: usize) -> Option<u16>
             }
         }
         at += c.width as usize;
-        i += 1;
     }
+    None
 }

@@ -45,7 +45,7 @@ pub fn go(next: usize, state: State, act: Act) -> Result<Move, Refusal>
     })
 }
 
-// A refusal, of any number, of a piece that is not wanted; a number outside its form goes first.
+// A refusal of a piece that is not wanted; a number outside its form goes first. Its number stays a number: `wrong` speaks of any.
 pub fn refuse(no: u8, x: &[u8], k: u8, a: usize, e: usize) -> Result<Move, Refusal>
     ensures { moved result ≡ wrong «no» x.now k a e }
 {

@@ -77,7 +77,7 @@ fn print_block(rt: &impl Print, s: &[u8], n: usize) -> io::Result<()> {
     Ok(())
 }
 
-// Writes the lines of all descriptions.
+// Writes the lines of all descriptions; where the next one starts is what this one's end says, so that no range goes over them.
 fn print_all(rt: &impl Print, s: &[u8]) -> io::Result<()> {
     let mut from: usize = 0;
     let mut n: usize = 1;
@@ -94,7 +94,7 @@ fn print_all(rt: &impl Print, s: &[u8]) -> io::Result<()> {
             return Ok(());
         }
         from = end + PART_BYTES;
-        n = n + 1;
+        n += 1;
     }
     Ok(())
 }

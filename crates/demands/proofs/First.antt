@@ -14,6 +14,7 @@ use mathlib.Core.List.{List, [], ◌∷◌}
 use mathlib.Core.Bool.{false}
 use mathlib.Core.Logic.{◌⊎◌}
 use lib.ListN.{length, replicate}
+use Rattle.std.specs.Prelude.{Result}
 use Rattle.text.specs.Answer.{refused}
 use Rattle.number.specs.Answer as number
 use Rattle.tables.specs.declared.setting.Setting.{Setting}

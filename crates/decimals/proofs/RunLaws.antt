@@ -6,7 +6,6 @@ use native.Mathlib.Omega.{arith}
 use mathlib.Core.Path.{◌≡◌, refl, sym, ◌∙◌, ap}
 use mathlib.Core.List.{List, [], ◌∷◌, ◌++◌}
 use mathlib.Core.Bool.{Bool, true, false, cond, ◌&&◌, and-false}
-use borrow.Author.Tests.{ne_eqb}
 use borrow.Author.Rules.{rules}
 use lib.Dec.{leb, eqb}
 use lib.ListN.{length, take, drop, get_or, drop_of_length-le}
@@ -37,25 +36,22 @@ module _ (s : List ℕ) where
     stand-ends : mantissa (left s i) ≡ [] → i ≡ length (mantissa s)
     stand-ends e = omega (arith, q.place, ap length e)
 
-    pub stand-large : i < length s → get_or s i 0 ≡ 69 → i ≡ length (mantissa s)
-    unfolding mantissa is_e
-    stand-large h e = stand-ends (rw (left-on s i h, e))
+    module _ (h : i < length s) {b : Bool} (e : b ≡ is_e (get_or s i 0)) where
+      pub stand-here : b ≡ true → i ≡ length (mantissa s)
+      unfolding mantissa
+      stand-here q = stand-ends (rw (left-on s i h, sym e ∙ q))
 
-    pub stand-small : i < length s → get_or s i 0 ≡ 101 → i ≡ length (mantissa s)
-    unfolding mantissa is_e
-    stand-small h e = stand-ends (rw (left-on s i h, e))
+      pub stand-on : b ≡ false → Standing s (i + 1)
+      unfolding mantissa
+      stand-on u =
+          let o : mantissa (left s i) ≡ get_or s i 0 ∷ mantissa (left s (i + 1)) = rw (left-on s i h, sym e ∙ u) in
+          record { place = omega (arith, q.place, ap length o) }
 
-    pub stand-on : i < length s → (get_or s i 0 ≡ 69 → ⊥) → (get_or s i 0 ≡ 101 → ⊥) → Standing s (i + 1)
-    unfolding mantissa is_e
-    stand-on h e g =
-        let o : mantissa (left s i) ≡ get_or s i 0 ∷ mantissa (left s (i + 1)) = rw (left-on s i h, ne_eqb (get_or s i 0) 69 e, ne_eqb (get_or s i 0) 101 g) in
-        record { place = omega (arith, q.place, ap length o) }
-
-    pub stand-end : length s ≤ i → i ≡ length (mantissa s)
+    pub stand-end : i ≤ length s → length s ≤ i → length s ≡ length (mantissa s)
     unfolding mantissa
-    stand-end h = stand-ends (rw (drop_of_length-le s h))
+    stand-end g h = let e : length s ≡ i = omega arith in e ∙ stand-ends (rw (drop_of_length-le s h))
 
-pub ruleset stands = (stand-start, stand-large, stand-small, stand-on, stand-end, rules)
+pub ruleset stands = (stand-start, stand-here, stand-on, stand-end, rules)
 
 -- the exponent behind it
 module _ (s : List ℕ) (e : ℕ) where

@@ -20,27 +20,38 @@ pub record Raising (m p n k : ℕ) : Type 0 where
   pub most : n ≤ most_whole
 
 module _ (m p : ℕ) where
-  pub raise-start : m ≤ most_whole → Raising m p m p
-  raise-start h = record { same = refl; most = h }
+  pub raise-start : m ≤ most_whole → Raising m p m (p - 0)
+  raise-start h = let e : p - 0 ≡ p = omega arith in record { same = rw e refl; most = h }
 
-  pub raise-on : (n k : ℕ) → Raising m p n k → n ≤ 999999999 → 0 < k → Raising m p (n * 10) (k - 1)
-  raise-on n zero q h g = absurd (omega arith)
-  raise-on n (suc k) q h g = let e : suc k - 1 ≡ k = omega arith in record { same = rw e (sym (ten-more n k) ∙ q.same); most = omega arith }
+  more : (n k : ℕ) → Raising m p n k → n ≤ 999999999 → 0 < k → Raising m p (n * 10) (k - 1)
+  more n zero q h g = absurd (omega arith)
+  more n (suc k) q h g = let e : suc k - 1 ≡ k = omega arith in record { same = rw e (sym (ten-more n k) ∙ q.same); most = omega arith }
 
-  pub raise-over : (n k : ℕ) → Raising m p n k → 999999999 < n → 0 < k → 10000000000 ≡ capped (m * 10 ^ p)
+  over : (n k : ℕ) → Raising m p n k → 999999999 < n → 0 < k → 10000000000 ≡ capped (m * 10 ^ p)
   unfolding capped
-  raise-over n zero q h g = absurd (omega arith)
-  raise-over n (suc k) q h g =
+  over n zero q h g = absurd (omega arith)
+  over n (suc k) q h g =
       let l : most_whole < m * 10 ^ p = omega (arith, ten-grows (n * 10) k, ten-more n k, q.same) in
       rw (lt-leb (m * 10 ^ p) most_whole l)
 
-  pub raise-end : (n k : ℕ) → Raising m p n k → k ≤ 0 → n ≡ capped (m * 10 ^ p)
+  end : (n k : ℕ) → Raising m p n k → k ≤ 0 → n ≡ capped (m * 10 ^ p)
   unfolding capped
-  raise-end n zero q h = let e : m * 10 ^ p ≡ n = sym q.same ∙ ten-none n in rw (e, le-leb n most_whole q.most)
-  raise-end n (suc k) q h = absurd (omega arith)
+  end n zero q h = let e : m * 10 ^ p ≡ n = sym q.same ∙ ten-none n in rw (e, le-leb n most_whole q.most)
+  end n (suc k) q h = absurd (omega arith)
 
-  pub raise-fits : (n k : ℕ) → Raising m p n k → n ≤ 999999999 → Fits w64 (n * 10)
-  raise-fits n k q h = record { fits = omega arith }
+  -- i zeros are there
+  module _ (n i : ℕ) (q : Raising m p n (p - i)) where
+    pub raise-on : n ≤ 999999999 → i < p → Raising m p (n * 10) (p - (i + 1))
+    raise-on h g = let e : p - (i + 1) ≡ p - i - 1 = omega arith in rw e (more n (p - i) q h (omega arith))
+
+    pub raise-over : 999999999 < n → i < p → 10000000000 ≡ capped (m * 10 ^ p)
+    raise-over h g = over n (p - i) q h (omega arith)
+
+    pub raise-end : p ≤ i → n ≡ capped (m * 10 ^ p)
+    raise-end h = end n (p - i) q (omega arith)
+
+  pub raise-fits : (n : ℕ) → n ≤ 999999999 → Fits w64 (n * 10)
+  raise-fits n h = record { fits = omega arith }
 
 pub ruleset raises = (raise-start, raise-on, raise-over, raise-end, raise-fits, rules)
 

@@ -4,7 +4,7 @@
 ghost use Rattle.std.specs.Prelude.{◌≡◌, length, drop};
 ghost use Rattle.number.specs.Answer.{in_run};
 ghost use Rattle.number.specs.Told.{told_decimal};
-ghost use Rattle.number.specs.Decimal.{mantissa, decimal_of};
+ghost use Rattle.number.specs.Decimal.{is_e, mantissa, decimal_of};
 ghost use Rattle.decimals.specs.Inner.{exponent_after};
 
 use crate::mantissa::mantissa_of;
@@ -16,25 +16,23 @@ mod gather;
 mod mantissa;
 mod tens;
 
-const LARGE_E: u8 = 69;
-
-const SMALL_E: u8 = 101;
+// `E` or `e`.
+fn is_e(b: u8) -> bool
+    ensures { result ≡ is_e b }
+{
+    (b == b'E') | (b == b'e')
+}
 
 // Where the first E or e stands, or the end.
 fn e_place(s: &[u8]) -> usize
     ensures { result ≡ length (mantissa s.now) }
 {
-    let mut i = 0;
-    while i < s.len() {
-        if s[i] == LARGE_E {
+    for i in 0..s.len() {
+        if is_e(s[i]) {
             return i;
         }
-        if s[i] == SMALL_E {
-            return i;
-        }
-        i += 1;
     }
-    i
+    s.len()
 }
 
 // The exponent behind the E at a place, or none at the end.

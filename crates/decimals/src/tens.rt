@@ -18,13 +18,11 @@ fn raised(m: u64, p: usize) -> u64
     ensures { result ≡ capped (m * 10 ^ p) }
 {
     let mut n = m;
-    let mut k = p;
-    while 0 < k {
+    for _ in 0..p {
         if MOST_NINE < n {
             return TOO_WIDE;
         }
-        n = n * 10;
-        k -= 1;
+        n *= 10;
     }
     n
 }

@@ -1,11 +1,6 @@
 -- `e_place` meets its contract.
-use lib.ListN.{length}
-use Prim.Native.Nat.{◌-◌}
 use Rattle.decimals.proofs.RunLaws.{Standing}
 use Rattle.decimals.proofs.e_place.Given as goal
 
 abbrev pub invariant-loop-i : goal.invariant-loop-i
 invariant-loop-i l = Standing l.s l.i
-
-abbrev pub decreases-loop-i : goal.decreases-loop-i
-decreases-loop-i l = length l.s - l.i

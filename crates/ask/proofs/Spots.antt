@@ -1,11 +1,13 @@
 -- What the loop over the bytes before a place keeps, and what each turn does.
-use Prim.Native.Nat.{ℕ, suc, ◌+◌, ◌-◌, ◌<◌, ◌≤◌}
+use Prim.Native.Nat.{ℕ, suc, ◌+◌, ◌-◌, ◌<◌, ◌≤◌, min}
 use native.Mathlib.Nat.{sub-zero, sub-eq-zero_of_le}
 use native.Mathlib.Numerals.{add-one}
 use native.Mathlib.Omega.{arith}
-use mathlib.Core.Path.{◌≡◌}
+use mathlib.Core.Path.{◌≡◌, refl}
 use mathlib.Core.List.{List, [], ◌∷◌}
-use borrow.Author.Tests.{ne_eqb}
+use mathlib.Core.Bool.{Bool, true, false}
+use borrow.Author.Tests.{ne_eqb, leb-true, leb-false}
+use lib.Dec.{leb}
 use borrow.Author.Rules.{rules}
 use lib.ListN.{length, take, drop, get_or, drop_of_length-le}
 use lib.Seq.{drop-cons, take-nil}
@@ -43,35 +45,37 @@ module _ (x : List ℕ) (place : ℕ) where
     passed : length x ≤ i → rest x place i ≡ []
     passed h = rw (drop_of_length-le x h, take-nil)
 
-    pub line-placed : place ≤ i → line ≡ line_number x place
-    line-placed h = (ended (placed h)).0
+    end-turn : (t : Bool) → leb place i ≡ t → min place (length x) ≤ i → rest x place i ≡ []
+    end-turn true e h = placed (leb-true place i e)
+    end-turn false e h = let l = leb-false place i e in passed (omega arith)
 
-    pub column-placed : place ≤ i → column ≡ column_at x place
-    column-placed h = (ended (placed h)).1
+    -- m is where the loop ends
+    pub counting-end : (m : ℕ) → m ≡ min place (length x) → m ≤ i → (line ≡ line_number x place) × (column ≡ column_at x place)
+    counting-end m e h = ended (end-turn (leb place i) refl (omega arith))
 
-    pub line-passed : length x ≤ i → line ≡ line_number x place
-    line-passed h = (ended (passed h)).0
+    module _ (m : ℕ) (em : m ≡ min place (length x)) (lm : i < m) where
+      h : i < length x
+      h = omega arith
 
-    pub column-passed : length x ≤ i → column ≡ column_at x place
-    column-passed h = (ended (passed h)).1
+      g : i < place
+      g = omega arith
 
-    module _ (h : i < length x) (g : i < place) where
       on : rest x place i ≡ get_or x i 0 ∷ rest x place (i + 1)
-      on = let e : place - i ≡ suc (place - (i + 1)) = omega arith in rw (e, drop-cons x i 0 h, add-one i)
+      on = let e : place - i ≡ suc (place - (i + 1)) = omega (arith, g) in rw (e, drop-cons x i 0 h, add-one i)
 
-      pub counting-line : (m k : ℕ) → get_or x i 0 ≡ 10 → m ≡ line + 1 → k ≡ 1 → Counting x place (i + 1) m k
+      pub counting-line : (n k : ℕ) → get_or x i 0 ≡ 10 → n ≡ line + 1 → k ≡ 1 → Counting x place (i + 1) n k
       unfolding line_ends since_end
-      counting-line m k b u v =
+      counting-line n k b u v =
           let l : line + suc (line_ends (rest x place (i + 1))) ≡ line_number x place = rw (on, b) at q.lines in
           let c : suc (since_end 0 (rest x place (i + 1))) ≡ column_at x place = rw (on, b) at q.columns in
           record { lines = omega arith; columns = rw v c; line_low = omega (arith, q.line_low); column_low = omega arith; some = omega arith }
 
-      pub counting-column : (m k : ℕ) → (get_or x i 0 ≡ 10 → ⊥) → m ≡ line → k ≡ column + 1 → Counting x place (i + 1) m k
+      pub counting-column : (n k : ℕ) → (get_or x i 0 ≡ 10 → ⊥) → n ≡ line → k ≡ column + 1 → Counting x place (i + 1) n k
       unfolding line_ends since_end
-      counting-column m k b u v =
+      counting-column n k b u v =
           let l : line + line_ends (rest x place (i + 1)) ≡ line_number x place = rw (on, ne_eqb (get_or x i 0) 10 b) at q.lines in
           let c : suc (since_end (suc (column - 1)) (rest x place (i + 1))) ≡ column_at x place = rw (on, ne_eqb (get_or x i 0) 10 b) at q.columns in
           let s : k - 1 ≡ suc (column - 1) = omega (arith, q.some) in
           record { lines = omega arith; columns = rw s c; line_low = omega (arith, q.line_low); column_low = omega (arith, q.column_low); some = omega arith }
 
-pub ruleset spots = (counting-start, line-placed, column-placed, line-passed, column-passed, counting-line, counting-column, rules)
+pub ruleset spots = (counting-start, counting-end, counting-line, counting-column, rules)

@@ -20,7 +20,7 @@ use Rattle.number.specs.Decimal.{signs, minus}
 use Rattle.number.specs.Whole.{whole_from, whole_of}
 use Rattle.number.specs.Told.{told_whole}
 use Rattle.number.specs.declared.digits.NoForm.{NoForm}
-use Rattle.std.specs.Prelude.{Option, Some, None, Result, Ok, Err}
+use Rattle.std.specs.Prelude.{Some, None, Result, Ok, Err}
 use Rattle.std.specs.Result.{result_ok}
 use Rattle.number.specs.Signed.{signed_of, most_signed}
 use Rattle.ask.specs.Typed.{part_of, with_sign, raw_typed}

@@ -2,9 +2,6 @@
 ghost use Rattle.std.specs.Prelude.{◌≡◌};
 ghost use Rattle.ask.specs.Spot.{line_number, column_at};
 
-// The byte that ends a line.
-const LF: u8 = 10;
-
 // A line and a column, both from 1.
 #[derive(Clone, Copy)]
 pub struct Spot {
@@ -16,20 +13,15 @@ pub struct Spot {
 pub fn spot_of(x: &[u8], place: usize) -> Spot
     ensures { (result.line ≡ line_number x.now place) × (result.column ≡ column_at x.now place) }
 {
-    let mut i: usize = 0;
     let mut line: usize = 1;
     let mut column: usize = 1;
-    while i < x.len() {
-        if place <= i {
-            return Spot { line, column };
-        }
-        if x[i] == LF {
+    for i in 0..place.min(x.len()) {
+        if x[i] == b'\n' {
             line += 1;
             column = 1;
         } else {
             column += 1;
         }
-        i += 1;
     }
     Spot { line, column }
 }

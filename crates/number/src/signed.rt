@@ -2,21 +2,14 @@
 ghost use Rattle.std.specs.Prelude.{◌≡◌, ◌≤◌};
 ghost use Rattle.number.specs.Signed.{signed_of, most_signed};
 
-// The greatest sizes of an i64, with a minus and without, and the number below which the others with a minus stand.
-const MOST_BELOW: u64 = 9223372036854775808;
-
-const MOST_ABOVE: u64 = 9223372036854775807;
-
-const MINUS_ONE: i64 = -1;
-
 // The greatest size that an i64 has, with a minus or without.
 pub fn most_signed(negative: bool) -> u64
     ensures { result ≡ most_signed negative }
 {
     if negative {
-        return MOST_BELOW;
+        return i64::MIN.unsigned_abs();
     }
-    MOST_ABOVE
+    i64::MAX.unsigned_abs()
 }
 
 // The number of a size, with or without a minus.
@@ -29,7 +22,7 @@ pub fn with_sign(negative: bool, n: u64) -> i64
             return 0;
         }
         let x = (n - 1) as i64;
-        return MINUS_ONE - x;
+        return -1 - x;
     }
     n as i64
 }

@@ -49,12 +49,10 @@ pub fn divided(t: u32, n: u64, d: u64) -> Division
 {
     let mut whole = n / d;
     let mut rest = n % d;
-    let mut k: u32 = 0;
-    while k < t {
+    for _ in 0..t {
         let s = digit(rest, d);
         whole = whole * 10 + s.whole;
         rest = s.rest;
-        k += 1;
     }
     Division { whole, rest }
 }

@@ -1,11 +1,6 @@
 -- `spot_of` meets its contract. The loop keeps `Counting`.
 use Rattle.ask.proofs.Spots.{Counting}
-use lib.ListN.{length}
-use Prim.Native.Nat.{◌-◌}
 use Rattle.ask.proofs.spot.spot_of.Given as goal
 
 abbrev pub invariant-loop-i : goal.invariant-loop-i
 invariant-loop-i l = Counting l.x l.place l.i l.line l.column
-
-abbrev pub decreases-loop-i : goal.decreases-loop-i
-decreases-loop-i l = length l.x - l.i

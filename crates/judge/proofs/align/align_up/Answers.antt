@@ -5,8 +5,5 @@ use Rattle.judge.proofs.align.align_up.Goals as goal
 pub returns-then-align-eq0 : goal.returns-then-align-eq0
 returns-then-align-eq0 c = search ups
 
-pub next_multiple_of-requires : goal.next_multiple_of-requires
-next_multiple_of-requires c = search ups
-
 pub returns : goal.returns
 returns c = search ups

@@ -2,12 +2,6 @@
 use Rattle.place.proofs.Steps.{sortings}
 use Rattle.judge.proofs.walk.place_sorted.Goals as goal
 
-pub loop-p-init : goal.loop-p-init
-loop-p-init c = search sortings
-
-pub place_next-requires : goal.place_next-requires
-place_next-requires c = search sortings
-
 pub returns-in_err-s : goal.returns-in_err-s
 returns-in_err-s c = search sortings
 

@@ -1,18 +1,11 @@
 -- `fraction::fraction::shown_of` meets its contract. Assumes nothing.
-use mathlib.Core.Path.{ap, ap₂, ◌∙◌}
+use mathlib.Core.Path.{ap₂, ◌∙◌}
 use native.Mathlib.Omega.{arith}
-use lib.IntN.{nat_abs}
 use Rattle.cell.proofs.Signed.{returned}
 use Rattle.convert.specs.Shown.{quotient}
 use Rattle.convert.proofs.Wholes.{sized}
-use Rattle.convert.proofs.Showns.{exact-both, shown-real, shown-inexact, shown-words, shown-none}
+use Rattle.convert.proofs.Showns.{shown-real, shown-inexact, shown-words, shown-none}
 use Rattle.fraction.proofs.fraction.shown_of.Goals as goal
-
-pub quotient_of-requires : goal.quotient_of-requires
-quotient_of-requires c =
-    let p = c.args.p in
-    let e = exact-both p (sized p.first (omega arith) c.size.ensures) (sized p.second (omega arith) c.size-in-1.ensures) c.if-size.true in
-    (omega (arith, ap nat_abs (returned p.first (omega arith)), e.0), omega (arith, ap nat_abs (returned p.second (omega arith)), e.1))
 
 pub returns-then-size : goal.returns-then-size
 returns-then-size c =

@@ -2,12 +2,6 @@
 use Rattle.places.proofs.Sides.{sides}
 use Rattle.places.proofs.limit.sides_of.Goals as goal
 
-pub is_formed-requires : goal.is_formed-requires
-is_formed-requires c = search sides
-
-pub size-requires : goal.size-requires
-size-requires c = search sides
-
 pub signed_sides-requires : goal.signed_sides-requires
 signed_sides-requires c = search sides
 

@@ -2,12 +2,6 @@
 use Rattle.places.proofs.Sides.{sides}
 use Rattle.places.proofs.limit.signed_sides.Goals as goal
 
-pub size-m-requires : goal.size-m-requires
-size-m-requires c = search sides
-
-pub sizes-s-requires : goal.sizes-s-requires
-sizes-s-requires c = search sides
-
 pub returns-then-a : goal.returns-then-a
 returns-then-a c = search sides
 

@@ -2,14 +2,8 @@
 use Rattle.places.proofs.Sides.{sides}
 use Rattle.places.proofs.limit.sizes.Goals as goal
 
-pub nonzero_div-n : goal.nonzero_div-n
-nonzero_div-n c = search sides
-
 pub returns-then-n-d-ge-PAST_WHOLE : goal.returns-then-n-d-ge-PAST_WHOLE
 returns-then-n-d-ge-PAST_WHOLE c = search sides
-
-pub divided-q-requires : goal.divided-q-requires
-divided-q-requires c = search sides
 
 pub returns : goal.returns
 returns c = search sides

@@ -2,9 +2,6 @@
 use Rattle.places.proofs.Sixes.{sixes}
 use Rattle.places.proofs.six.six_places.Goals as goal
 
-pub places_of-requires : goal.places_of-requires
-places_of-requires c = search sixes
-
 pub returns-then-d : goal.returns-then-d
 returns-then-d c = search sixes
 

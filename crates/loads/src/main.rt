@@ -2,7 +2,7 @@
 // A line `====` parts two of them. Each starts with a line of its own: the base address, a space, the image in hex. All are of edition 1.
 #![tactic(auto)]
 
-use cases::{LF, PART_BYTES, SPACE, between, bytes_of, number_at, part_end, place_from};
+use cases::{bytes_of, number_at, split_once, split_part};
 use convert::edition::EDITION_ONE;
 use load::load;
 use std::io;
@@ -20,81 +20,57 @@ const TABLE_CELLS: usize = 36617;
 
 const WORK_CELLS: usize = 42578;
 
-// Writes a word and a number.
-fn print_words(rt: &impl Print, word: &str, n: u64) -> io::Result<()> {
-    print!(rt; "{word}{n}")
-}
-
-// Writes a word and how many records a section has.
-fn print_count(rt: &impl Print, word: &str, t: &[u64], j: u8) -> io::Result<()> {
-    print_words(rt, word, count_of(t, j) as u64)
-}
-
-// Writes a refusal.
-fn print_refusal(rt: &impl Print, no: u8, place: usize) -> io::Result<()> {
-    print_words(rt, " refused ", no as u64)?;
-    print_words(rt, " at ", place as u64)
-}
-
 // Writes what accepted tables hold.
 fn print_accepted(rt: &impl Print, t: &[u64]) -> io::Result<()> {
-    rt.print(" accepted")?;
-    print_count(rt, " objects ", t, OBJECT)?;
-    print_count(rt, " methods ", t, METHOD)?;
-    print_count(rt, " tables ", t, TABLE)?;
-    print_count(rt, " entries ", t, ENTRY)?;
-    print_words(rt, " elements ", slot_of(t, HEAD, 0, 2))
+    print!(rt;
+        " accepted objects {} methods {} tables {} entries {} elements {}",
+        count_of(t, OBJECT),
+        count_of(t, METHOD),
+        count_of(t, TABLE),
+        count_of(t, ENTRY),
+        slot_of(t, HEAD, 0, 2)
+    )
 }
 
 // Loads description n with its image and writes its line.
 fn print_loaded(rt: &impl Print, x: &[u8], image: &[u8], base: u32, n: usize) -> io::Result<()> {
     let mut t = [0u64; TABLE_CELLS];
     let mut work = [0u64; WORK_CELLS];
-    rt.print(n)?;
+    print!(rt; "{n}")?;
     let s = Setting {
         base,
         edition: EDITION_ONE,
     };
     match load(x, image, s, &mut t, &mut work) {
         Ok(()) => print_accepted(rt, &t)?,
-        Err(r) => print_refusal(rt, r.no, r.place)?,
+        Err(r) => print!(rt; " refused {} at {}", r.no, r.place)?,
     }
-    rt.print("\n")
+    println!(rt)
 }
 
 // Loads one description with the line before it, and writes its line.
 fn print_block(rt: &impl Print, s: &[u8], n: usize) -> io::Result<()> {
-    let end = place_from(s, 0, LF);
-    let gap = place_from(s, 0, SPACE);
-    let mut image = [0u8; IMAGE_BYTES];
-    if end < s.len() {
-        if gap < end {
-            let m = bytes_of(between(s, gap + 1, end), &mut image);
-            let base = number_at(between(s, 0, gap));
-            return print_loaded(rt, &s[end + 1..], between(&image, 0, m), base, n);
-        }
-    }
-    Ok(())
+    let Some((line, x)) = split_once(s, b"\n") else {
+        return Ok(());
+    };
+    let Some((base, hex)) = split_once(line, b" ") else {
+        return Ok(());
+    };
+    let mut room = [0u8; IMAGE_BYTES];
+    let image = bytes_of(hex, &mut room);
+    print_loaded(rt, x, image, number_at(base), n)
 }
 
-// Writes the lines of all descriptions; where the next one starts is what this one's end says, so that no range goes over them.
+// Writes the lines of all descriptions.
 fn print_all(rt: &impl Print, s: &[u8]) -> io::Result<()> {
-    let mut from: usize = 0;
-    let mut n: usize = 1;
-    while from < s.len() {
-        let end = part_end(s, from);
-        if end < from {
-            return Ok(());
+    let mut rest = s;
+    for n in 1..usize::MAX {
+        if rest.is_empty() {
+            break;
         }
-        print_block(rt, between(s, from, end), n)?;
-        if s.len() < end {
-            return Ok(());
-        }
-        if s.len() - end < PART_BYTES {
-            return Ok(());
-        }
-        from = end + PART_BYTES;
-        n += 1;
+        let (part, after) = split_part(rest).unwrap_or((rest, b""));
+        print_block(rt, part, n)?;
+        rest = after;
     }
     Ok(())
 }

@@ -14,18 +14,6 @@ const TEXT_BYTES: usize = 32768;
 // The levels left below a block of MODULE, which stands at depth 3 of 16.
 const LEVELS_LEFT: u8 = 13;
 
-// Writes a number after a blank.
-fn print_number(rt: &impl Print, n: usize) -> io::Result<()> {
-    print!(rt; " {n}")
-}
-
-// Writes a word and two numbers.
-fn print_words(rt: &impl Print, word: &str, first: usize, second: usize) -> io::Result<()> {
-    rt.print(word)?;
-    print_number(rt, first)?;
-    print_number(rt, second)
-}
-
 // Writes the line of a token from start up to the cursor past it, and answers that cursor.
 fn print_token(
     rt: &impl Print,
@@ -34,22 +22,18 @@ fn print_token(
     start: usize,
     next: Cursor,
 ) -> io::Result<Option<Cursor>> {
-    let end = next.at;
-    print_words(rt, kind, start, end)?;
-    if start <= end {
-        if end <= s.len() {
-            rt.print(" ")?;
-            rt.write_all(&s[start..end])?;
-        }
+    print!(rt; "{kind} {start} {}", next.at)?;
+    if let Some(token) = s.get(start..next.at) {
+        rt.print(" ")?;
+        rt.write_all(token)?;
     }
-    rt.print("\n")?;
+    println!(rt)?;
     Ok(Some(next))
 }
 
 // Writes the line of a refusal.
 fn print_refusal(rt: &impl Print, why: Refusal) -> io::Result<Option<Cursor>> {
-    print_words(rt, "refused", why.no as usize, why.place)?;
-    rt.print("\n")?;
+    println!(rt; "refused {} {}", why.no, why.place)?;
     Ok(None)
 }
 
@@ -63,8 +47,7 @@ fn print_block(
 ) -> io::Result<Option<Cursor>> {
     match to.skip_block(s, from, LEVELS_LEFT) {
         Ok(past) => {
-            print_words(rt, "skipped", begin, past.at)?;
-            rt.print("\n")?;
+            println!(rt; "skipped {begin} {}", past.at)?;
             Ok(Some(past))
         }
         Err(why) => print_refusal(rt, why),
@@ -90,9 +73,7 @@ fn print_begin(
 
 // Writes the line of the text's end.
 fn print_finish(rt: &impl Print, place: usize) -> io::Result<Option<Cursor>> {
-    rt.print("finish")?;
-    print_number(rt, place)?;
-    rt.print("\n")?;
+    println!(rt; "finish {place}")?;
     Ok(None)
 }
 
@@ -109,17 +90,14 @@ fn print_next(rt: &impl Print, s: &[u8], c: Cursor) -> io::Result<Option<Cursor>
     }
 }
 
-// Writes the lines of all tokens. Each token lies ahead of the place it is read from, so the test of that never stops the loop.
+// Writes the lines of all tokens: each lies ahead of the place it is read from, so there are no more than bytes before the text's end.
 fn print_all(rt: &impl Print, s: &[u8]) -> io::Result<()> {
-    let mut at: usize = 0;
-    while at <= s.len() {
-        let Some(c) = print_next(rt, s, Cursor { at })? else {
-            return Ok(());
+    let mut c = Cursor { at: 0 };
+    for _ in 0..=s.len() {
+        let Some(next) = print_next(rt, s, c)? else {
+            break;
         };
-        if c.at <= at {
-            return Ok(());
-        }
-        at = c.at;
+        c = next;
     }
     Ok(())
 }

@@ -3,7 +3,7 @@
 // A request is a line of five words parted by single spaces: object number, part (x, y, v), index, raw or phys, the value.
 #![tactic(auto)]
 
-use cases::{LF, PART_BYTES, SPACE, between, bytes_of, number_at, part_end, place_from};
+use cases::{bytes_of, number_at, split_once, split_part};
 use convert::edition::EDITION_ONE;
 use list::make::make_list;
 use list::write::{write_physical, write_raw};
@@ -29,24 +29,41 @@ const TABLE_CELLS: usize = 36617;
 
 const WORK_CELLS: usize = 42578;
 
-// The first letter of `raw`, and the letters of the parts.
-const RAW: u8 = 114;
+// A description that was loaded: its text, the base address, and its tables.
+#[derive(Clone, Copy)]
+struct Loaded<'a> {
+    x: &'a [u8],
+    base: u32,
+    t: &'a [u64],
+}
 
-const X: u8 = 120;
+// The four columns of the kept list.
+#[derive(Drop)]
+struct Columns {
+    raw: [i64; LINES],
+    state: [u8; LINES],
+    first: [i64; LINES],
+    second: [i64; LINES],
+}
 
-const Y: u8 = 121;
-
-const V: u8 = 118;
-
-// A part's number; 3 for a letter that is no part.
-fn part_of(s: &[u8]) -> u8 {
-    if s.len() != 1 {
-        return 3;
+impl Columns {
+    // Columns of zeros.
+    fn zeros() -> Columns {
+        Columns {
+            raw: [0; LINES],
+            state: [0; LINES],
+            first: [0; LINES],
+            second: [0; LINES],
+        }
     }
-    match s[0] {
-        X => 0,
-        Y => 1,
-        V => 2,
+}
+
+// A part's number; 3 for a word that is no part.
+fn part_of(word: &[u8]) -> u8 {
+    match word {
+        b"x" => 0,
+        b"y" => 1,
+        b"v" => 2,
         _ => 3,
     }
 }
@@ -59,255 +76,138 @@ fn print_answer(rt: &impl Print, n: usize, r: CallAnswer) -> io::Result<()> {
     }
 }
 
-// A request's words: the element, whether its value is a raw number, and where the value starts in the line.
+// A request: the element, whether its value is a raw number, and the value.
 #[derive(Clone, Copy)]
-struct Request {
+struct Request<'a> {
     object: u32,
     part: u8,
     index: u32,
     is_raw: bool,
-    value: usize,
+    value: &'a [u8],
 }
 
-// Whether a word says that the value is a raw number.
-fn is_raw(word: &[u8]) -> bool {
-    if 0 < word.len() {
-        return word[0] == RAW;
-    }
-    false
-}
-
-// The request of one line.
-fn request_of(line: &[u8]) -> Request {
-    let a = place_from(line, 0, SPACE);
-    let b = place_from(line, next(a), SPACE);
-    let c = place_from(line, next(b), SPACE);
-    let d = place_from(line, next(c), SPACE);
+// The request of one line; a word that is missing is empty.
+fn request_of(line: &[u8]) -> Request<'_> {
+    let mut words = line.splitn(5, |b| *b == b' ');
     Request {
-        object: number_at(between(line, 0, a)),
-        part: part_of(between(line, next(a), b)),
-        index: number_at(between(line, next(b), c)),
-        is_raw: is_raw(between(line, next(c), d)),
-        value: next(d),
+        object: number_at(words.next().unwrap_or(b"")),
+        part: part_of(words.next().unwrap_or(b"")),
+        index: number_at(words.next().unwrap_or(b"")),
+        is_raw: words.next().unwrap_or(b"").starts_with(b"r"),
+        value: words.next().unwrap_or(b""),
     }
 }
 
-// Carries out the request of one line on the image and the list.
-fn apply(
-    line: &[u8],
-    x: &[u8],
-    image: &mut [u8],
-    base: u32,
-    t: &[u64],
-    raw: &mut [i64],
-    state: &mut [u8],
-    first: &mut [i64],
-    second: &mut [i64],
-) -> CallAnswer {
-    let q = request_of(line);
-    let value = between(line, q.value, line.len());
-    if q.is_raw {
-        let number = number_at(value) as i64;
-        return write_raw(
-            x, image, base, t, raw, state, first, second, q.object, q.part, q.index, number,
-        );
-    }
-    write_physical(
-        x, image, base, t, raw, state, first, second, q.object, q.part, q.index, value,
+// Makes the list of an image.
+fn make(d: Loaded<'_>, image: &[u8], kept: &mut Columns) -> CallAnswer {
+    make_list(
+        d.x,
+        image,
+        d.base,
+        d.t,
+        &mut kept.raw,
+        &mut kept.state,
+        &mut kept.first,
+        &mut kept.second,
     )
 }
 
-// The place after one.
-fn next(at: usize) -> usize {
-    if at < TEXT_BYTES { at + 1 } else { at }
+// Carries out the request of one line on the image and the list.
+fn apply(d: Loaded<'_>, image: &mut [u8], kept: &mut Columns, line: &[u8]) -> CallAnswer {
+    let Request {
+        object,
+        part,
+        index,
+        is_raw,
+        value,
+    } = request_of(line);
+    let (raw, state) = (&mut kept.raw, &mut kept.state);
+    let (first, second) = (&mut kept.first, &mut kept.second);
+    if is_raw {
+        let number = number_at(value) as i64;
+        return write_raw(
+            d.x, image, d.base, d.t, raw, state, first, second, object, part, index, number,
+        );
+    }
+    write_physical(
+        d.x, image, d.base, d.t, raw, state, first, second, object, part, index, value,
+    )
 }
 
 // Applies the requests, a line each, and writes each answer.
 fn apply_all(
     rt: &impl Print,
-    q: &[u8],
-    x: &[u8],
+    d: Loaded<'_>,
     image: &mut [u8],
-    base: u32,
-    t: &[u64],
-    raw: &mut [i64],
-    state: &mut [u8],
-    first: &mut [i64],
-    second: &mut [i64],
+    kept: &mut Columns,
+    q: &[u8],
 ) -> io::Result<()> {
-    let mut from: usize = 0;
-    let mut n: usize = 1;
-    while from < q.len() {
-        let end = place_from(q, from, LF);
-        if end < from {
-            return Ok(());
-        }
-        let r = apply(
-            between(q, from, end),
-            x,
-            image,
-            base,
-            t,
-            raw,
-            state,
-            first,
-            second,
-        );
+    for (n, line) in (1..).zip(q.split_inclusive(|b| *b == b'\n')) {
+        let r = apply(d, image, kept, line.strip_suffix(b"\n").unwrap_or(line));
         print_answer(rt, n, r)?;
-        if q.len() <= end {
-            return Ok(());
-        }
-        from = end + 1;
-        n = n + 1;
     }
     Ok(())
 }
 
 // Writes the listing of the kept list.
-fn print_listing(
-    rt: &impl Print,
-    x: &[u8],
-    image: &[u8],
-    base: u32,
-    t: &[u64],
-    raw: &[i64],
-    state: &[u8],
-    first: &[i64],
-    second: &[i64],
-) -> io::Result<()> {
+fn print_listing(rt: &impl Print, d: Loaded<'_>, image: &[u8], kept: &Columns) -> io::Result<()> {
     let mut out = [0u8; OUT_BYTES];
-    match listing(x, image, base, t, raw, state, first, second, &mut out) {
-        ListingAnswer::Written(n) => rt.write_all(between(&out, 0, n)),
+    match listing(
+        d.x,
+        image,
+        d.base,
+        d.t,
+        &kept.raw,
+        &kept.state,
+        &kept.first,
+        &kept.second,
+        &mut out,
+    ) {
+        ListingAnswer::Written(n) => rt.write_all(out.get(..n).unwrap_or(b"")),
         ListingAnswer::Refused { no } => println!(rt; "{no} refused"),
     }
 }
 
-// The hex digit of a number below 16.
-fn hex_digit(n: u8) -> u8 {
-    if n < 10 {
-        return n + 48;
-    }
-    n % 16 + 87
-}
-
 // Writes bytes in hex.
 fn print_hex(rt: &impl Print, s: &[u8]) -> io::Result<()> {
-    let mut i: usize = 0;
-    while i < s.len() {
-        let b = s[i];
-        rt.write_all(&[hex_digit(b / 16), hex_digit(b % 16)])?;
-        i = i + 1;
+    for b in s {
+        print!(rt; "{b:02x}")?;
     }
-    rt.print("\n")
+    println!(rt)
 }
 
 // Makes a list with a column that is too short: 20.
-fn run_short(rt: &impl Print, x: &[u8], image: &[u8], base: u32, t: &[u64]) -> io::Result<()> {
-    let mut raw = [0i64; LINES];
-    let mut state = [0u8; LINES];
-    let mut first = [0i64; LINES];
-    let mut one = [0i64; 1];
+fn run_short(rt: &impl Print, d: Loaded<'_>, image: &[u8]) -> io::Result<()> {
+    let mut kept = Columns::zeros();
     let short = make_list(
-        x, image, base, t, &mut raw, &mut state, &mut first, &mut one,
+        d.x,
+        image,
+        d.base,
+        d.t,
+        &mut kept.raw,
+        &mut kept.state,
+        &mut kept.first,
+        &mut kept.second[..1],
     );
     print_answer(rt, 0, short)
 }
 
 // Makes a list with tables of zeros: 22.
-fn run_damaged(rt: &impl Print, x: &[u8], image: &[u8], base: u32) -> io::Result<()> {
-    let mut raw = [0i64; LINES];
-    let mut state = [0u8; LINES];
-    let mut first = [0i64; LINES];
-    let mut second = [0i64; LINES];
+fn run_damaged(rt: &impl Print, d: Loaded<'_>, image: &[u8]) -> io::Result<()> {
     let zeros = [0u64; TABLE_CELLS];
-    let damaged = make_list(
-        x,
-        image,
-        base,
-        &zeros,
-        &mut raw,
-        &mut state,
-        &mut first,
-        &mut second,
-    );
+    let damaged = make(Loaded { t: &zeros, ..d }, image, &mut Columns::zeros());
     print_answer(rt, 0, damaged)
 }
 
-// Writes the listing and the image.
-fn print_end(
-    rt: &impl Print,
-    x: &[u8],
-    image: &[u8],
-    base: u32,
-    t: &[u64],
-    raw: &[i64],
-    state: &[u8],
-    first: &[i64],
-    second: &[i64],
-) -> io::Result<()> {
-    print_listing(rt, x, image, base, t, raw, state, first, second)?;
-    print_hex(rt, image)
-}
-
-// Writes the listing of the list that was made, applies the requests, and writes listing and image after them.
-fn run_made(
-    rt: &impl Print,
-    q: &[u8],
-    x: &[u8],
-    image: &mut [u8],
-    base: u32,
-    t: &[u64],
-    raw: &mut [i64],
-    state: &mut [u8],
-    first: &mut [i64],
-    second: &mut [i64],
-) -> io::Result<()> {
-    print_listing(rt, x, image, base, t, raw, state, first, second)?;
-    apply_all(rt, q, x, image, base, t, raw, state, first, second)?;
-    print_end(rt, x, image, base, t, raw, state, first, second)
-}
-
-// Makes the list, and goes on with it.
-fn run(
-    rt: &impl Print,
-    q: &[u8],
-    x: &[u8],
-    image: &mut [u8],
-    base: u32,
-    t: &[u64],
-) -> io::Result<()> {
-    let mut raw = [0i64; LINES];
-    let mut state = [0u8; LINES];
-    let mut first = [0i64; LINES];
-    let mut second = [0i64; LINES];
-    let made = make_list(
-        x,
-        image,
-        base,
-        t,
-        &mut raw,
-        &mut state,
-        &mut first,
-        &mut second,
-    );
+// Makes the list, writes the listing, applies the requests, and writes listing and image after them.
+fn run(rt: &impl Print, d: Loaded<'_>, image: &mut [u8], q: &[u8]) -> io::Result<()> {
+    let mut kept = Columns::zeros();
+    let made = make(d, image, &mut kept);
     print_answer(rt, 0, made)?;
-    run_made(
-        rt,
-        q,
-        x,
-        image,
-        base,
-        t,
-        &mut raw,
-        &mut state,
-        &mut first,
-        &mut second,
-    )
-}
-
-// Writes a load's refusal.
-fn print_refusal(rt: &impl Print, no: u8, place: usize) -> io::Result<()> {
-    println!(rt; "refused {no} at {place}")
+    print_listing(rt, d, image, &kept)?;
+    apply_all(rt, d, image, &mut kept, q)?;
+    print_listing(rt, d, image, &kept)?;
+    print_hex(rt, image)
 }
 
 // Loads the description and runs the requests that follow it.
@@ -318,29 +218,25 @@ fn run_loaded(rt: &impl Print, q: &[u8], x: &[u8], image: &mut [u8], base: u32) 
         base,
         edition: EDITION_ONE,
     };
-    match load(x, image, s, &mut t, &mut work) {
-        Ok(()) => {
-            run_short(rt, x, image, base, &t)?;
-            run_damaged(rt, x, image, base)?;
-            run(rt, q, x, image, base, &t)
-        }
-        Err(r) => print_refusal(rt, r.no, r.place),
+    if let Err(r) = load(x, image, s, &mut t, &mut work) {
+        return println!(rt; "refused {} at {}", r.no, r.place);
     }
+    let d = Loaded { x, base, t: &t };
+    run_short(rt, d, image)?;
+    run_damaged(rt, d, image)?;
+    run(rt, d, image, q)
 }
 
 // Takes the description's first line apart.
 fn run_all(rt: &impl Print, s: &[u8]) -> io::Result<()> {
-    let part = part_end(s, 0);
-    let end = place_from(s, 0, LF);
-    let gap = place_from(s, 0, SPACE);
+    let Some((part, q)) = split_part(s) else {
+        return Ok(());
+    };
+    let (line, x) = split_once(part, b"\n").unwrap_or((part, b""));
+    let (base, hex) = split_once(line, b" ").unwrap_or((line, b""));
     let mut image = [0u8; IMAGE_BYTES];
-    bytes_of(between(s, next(gap), end), &mut image);
-    let base = number_at(between(s, 0, gap));
-    if part < s.len() {
-        let q = between(s, part + PART_BYTES, s.len());
-        return run_loaded(rt, q, between(s, next(end), part), &mut image, base);
-    }
-    Ok(())
+    bytes_of(hex, &mut image);
+    run_loaded(rt, q, x, &mut image, number_at(base))
 }
 
 fn main(rt: HostRuntime) -> io::Result<()> {

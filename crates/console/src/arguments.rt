@@ -1,6 +1,5 @@
 // The program's arguments: the command, the base address, the edition, an element's part and index.
-use crate::called::{edition_at, has_edition, is_same, minus, word_at, word_count};
-use crate::sizes::{WORD_ROOM, front};
+use crate::called::{edition_at, has_edition, word_at, word_count};
 use convert::edition::EDITION_ONE;
 use runs::whole::whole_of;
 use std::rt::Env;
@@ -26,14 +25,8 @@ pub const WAY: u8 = 8;
 
 pub const VALUE: u8 = 9;
 
-// The greatest base address, the greatest index and the greatest number of an edition.
-const MOST_BASE: u64 = 4294967295;
-
-const MOST_INDEX: u64 = 4294967295;
-
-const MOST_EDITION: u64 = 4294967295;
-
-const MOST_TYPED: u64 = 18446744073709551615;
+// The greatest number that is read of a word.
+const MOST_TYPED: u64 = u64::MAX;
 
 // There is no such edition.
 const NO_EDITION: u32 = 0;
@@ -41,152 +34,108 @@ const NO_EDITION: u32 = 0;
 // How many hexadecimal figures a number below 2^32 has at most.
 const MOST_FIGURES: usize = 8;
 
+// What a command does with an image.
 #[derive(Clone, Copy)]
-pub enum Command {
-    Help,
-    Unknown,
+pub enum Task {
     List,
     Get,
     Set,
     Apply,
 }
 
-// A base address that is typed: one below 2^32, a number of 2^32 or more, or no number.
+// What the program is called for.
 #[derive(Clone, Copy)]
-pub enum BaseTyped {
-    Address(u32),
-    TooLarge,
-    Nothing,
+pub enum Command {
+    Help,
+    Task(Task),
 }
 
-// Whether a word asks for help.
-fn is_help(word: &[u8]) -> bool {
-    is_same(word, b"help") | is_same(word, b"--help") | is_same(word, b"-h")
+// Why a word is no base address: it writes a number of 2^32 or more, or none.
+#[derive(Clone, Copy)]
+pub enum NoBase {
+    TooLarge,
+    NoNumber,
 }
 
 // The command that a word names.
-fn command_of(word: &[u8]) -> Command {
-    if is_same(word, b"list") {
-        return Command::List;
+fn command_of(word: &[u8]) -> Option<Command> {
+    match word {
+        b"list" => Some(Command::Task(Task::List)),
+        b"get" => Some(Command::Task(Task::Get)),
+        b"set" => Some(Command::Task(Task::Set)),
+        b"apply" => Some(Command::Task(Task::Apply)),
+        b"help" | b"--help" | b"-h" => Some(Command::Help),
+        _ => None,
     }
-    if is_same(word, b"get") {
-        return Command::Get;
-    }
-    if is_same(word, b"set") {
-        return Command::Set;
-    }
-    if is_same(word, b"apply") {
-        return Command::Apply;
-    }
-    if is_help(word) {
-        return Command::Help;
-    }
-    Command::Unknown
 }
 
-// The command that the program was called with; help where there is none.
-pub fn command_typed(rt: &impl Env) -> Command {
+// The command that the program was called with; help where there is no word.
+pub fn command_typed(rt: &impl Env) -> Option<Command> {
     if word_count(rt) < 2 {
-        return Command::Help;
+        return Some(Command::Help);
     }
-    let mut word = [0u8; WORD_ROOM];
-    let n = word_at(rt, COMMAND, &mut word);
-    command_of(front(&word, n))
+    command_of(word_at(rt, COMMAND).bytes())
 }
 
-// How many words a command has, the program's name among them; help has any number.
-fn words_of(command: Command) -> usize {
-    match command {
-        Command::List => 5,
-        Command::Get => 8,
-        Command::Set => 10,
-        Command::Apply => 6,
-        Command::Help => 0,
-        Command::Unknown => 0,
+// How many words a command has, the program's name among them.
+fn words_of(task: Task) -> usize {
+    match task {
+        Task::List => 5,
+        Task::Get => 8,
+        Task::Set => 10,
+        Task::Apply => 6,
     }
 }
 
 // Whether a command was called with the words that it has.
-pub fn has_words(rt: &impl Env, command: Command) -> bool {
-    word_count(rt) == words_of(command)
+pub fn has_words(rt: &impl Env, task: Task) -> bool {
+    word_count(rt) == words_of(task)
 }
 
 // Whether a byte is a figure of a decimal or of a hexadecimal number.
 fn is_figure(b: u8, hex: bool) -> bool {
-    let decimal = (48 <= b) & (b <= 57);
-    let letter = ((65 <= b) & (b <= 70)) | ((97 <= b) & (b <= 102));
-    decimal | (hex & letter)
-}
-
-// Whether a word has figures alone from a place on.
-fn are_figures(word: &[u8], from: usize, hex: bool) -> bool {
-    let mut i = from;
-    while i < word.len() {
-        if !is_figure(word[i], hex) {
-            return false;
-        }
-        i += 1;
+    if hex {
+        b.is_ascii_hexdigit()
+    } else {
+        b.is_ascii_digit()
     }
-    true
 }
 
-// The place of the first byte from a place on that is no zero, or the length.
-fn past_zeros(word: &[u8], from: usize) -> usize {
-    let mut i = from;
-    while i < word.len() {
-        if word[i] != 48 {
-            return i;
-        }
-        i += 1;
-    }
-    word.len()
-}
-
-// Whether a word has so many figures from a place on, needless zeros aside, that it writes a number of 2^32 or more.
-fn has_many(word: &[u8], from: usize, hex: bool) -> bool {
-    let first = past_zeros(word, from);
-    (MOST_FIGURES < minus(word.len(), first)) & are_figures(word, from, hex)
+// Whether there are figures alone, and so many, needless zeros aside, that they write a number of 2^32 or more.
+fn has_many(figures: &[u8], hex: bool) -> bool {
+    let Some(first) = figures.iter().position(|b| *b != b'0') else {
+        return false;
+    };
+    let rest = &figures[first..];
+    MOST_FIGURES < rest.len() && rest.iter().all(|b| is_figure(*b, hex))
 }
 
 // Whether a word that was found to be no whole number of 64 bits writes a greater one.
 fn is_large(word: &[u8]) -> bool {
-    if 2 < word.len() {
-        if (word[0] == 48) & (word[1] == 120) {
-            return has_many(word, 2, true);
-        }
+    match word.strip_prefix(b"0x") {
+        Some(figures) => has_many(figures, true),
+        None => has_many(word, false),
     }
-    has_many(word, 0, false)
 }
 
 // The base address that a word writes.
-fn base_of(word: &[u8]) -> BaseTyped {
+fn base_of(word: &[u8]) -> Result<u32, NoBase> {
     match whole_of(word, MOST_TYPED) {
-        Ok(b) => {
-            if b <= MOST_BASE {
-                return BaseTyped::Address((b % 4294967296) as u32);
-            }
-            BaseTyped::TooLarge
-        }
-        Err(_) => {
-            if is_large(word) {
-                return BaseTyped::TooLarge;
-            }
-            BaseTyped::Nothing
-        }
+        Ok(b) => u32::try_from(b).map_err(|_| NoBase::TooLarge),
+        Err(_) if is_large(word) => Err(NoBase::TooLarge),
+        Err(_) => Err(NoBase::NoNumber),
     }
 }
 
 // The base address that the program was called with.
-pub fn base_typed(rt: &impl Env) -> BaseTyped {
-    let mut word = [0u8; WORD_ROOM];
-    let n = word_at(rt, BASE, &mut word);
-    base_of(front(&word, n))
+pub fn base_typed(rt: &impl Env) -> Result<u32, NoBase> {
+    base_of(word_at(rt, BASE).bytes())
 }
 
 // The edition that a word names; one that there is not where it is no number, or greater than 32 bits hold.
 fn edition_of(word: &[u8]) -> u32 {
-    match whole_of(word, MOST_EDITION) {
-        Ok(e) => (e % 4294967296) as u32,
+    match whole_of(word, MOST_TYPED) {
+        Ok(e) => u32::try_from(e).unwrap_or(NO_EDITION),
         Err(_) => NO_EDITION,
     }
 }
@@ -194,9 +143,7 @@ fn edition_of(word: &[u8]) -> u32 {
 // The edition that the program was called with, and the first where none was named.
 pub fn edition_typed(rt: &impl Env) -> u32 {
     if has_edition(rt) {
-        let mut word = [0u8; WORD_ROOM];
-        let n = edition_at(rt, &mut word);
-        return edition_of(front(&word, n));
+        return edition_of(edition_at(rt).bytes());
     }
     EDITION_ONE
 }
@@ -204,8 +151,5 @@ pub fn edition_typed(rt: &impl Env) -> u32 {
 // The index that a word names; one that no element has where it is greater than 32 bits hold.
 pub fn index_of(word: &[u8]) -> Option<u32> {
     let i = whole_of(word, MOST_TYPED).ok()?;
-    if i < MOST_INDEX {
-        return Some((i % 4294967296) as u32);
-    }
-    Some(4294967295)
+    Some(u32::try_from(i).unwrap_or(u32::MAX))
 }

@@ -4,20 +4,37 @@ use std::io;
 use std::io::ErrorKind;
 use std::process::ExitCode;
 
-// The exit status of each ending.
-const DONE: u8 = 0;
-
+// The exit status where what was asked was refused, and where an error was said.
 const REFUSED: u8 = 1;
 
 const FAILED: u8 = 2;
 
-// What was asked is done, it was refused, or an error was said.
+// Why the program ends before what was asked is done: it was refused, an error was said, or an answer could not be written.
 #[derive(Clone, Copy)]
-pub enum Ending {
-    Done,
+pub enum Stop {
     Refused,
     Failed,
+    Lost(io::Error),
 }
+
+impl Stop {
+    // A refusal that was said, or that could not be.
+    pub fn refused(said: io::Result<()>) -> Stop {
+        match said {
+            Ok(()) => Stop::Refused,
+            Err(error) => Stop::Lost(error),
+        }
+    }
+}
+
+impl From<io::Error> for Stop {
+    fn from(error: io::Error) -> Stop {
+        Stop::Lost(error)
+    }
+}
+
+// What was asked is done, or why it is not.
+pub type Ending = Result<(), Stop>;
 
 // Standard error, which takes bytes that are no text too.
 pub trait Errors: Eprint {
@@ -30,54 +47,29 @@ impl Errors for HostRuntime {
     }
 }
 
-// Writes words of an error.
-pub fn complain(rt: &impl Errors, words: &[u8]) {
-    let _ = rt.write_error(words);
-}
-
-// Writes a number of an error.
-pub fn complain_number(rt: &impl Errors, n: u64) {
-    let _ = rt.eprint(n);
-}
-
-// Writes words of an answer.
-pub fn say(rt: &impl Print, words: &[u8]) -> io::Result<()> {
-    rt.write_all(words)
-}
-
-// Writes a number of an answer.
-pub fn say_number(rt: &impl Print, n: u64) -> io::Result<()> {
-    rt.print(n)
-}
-
 // Whether all that was said has been written, and standard output still takes words.
-pub fn heard(rt: &impl Print, said: io::Result<Ending>) -> io::Result<Ending> {
-    let ending = said?;
-    rt.write_some(b"")?;
-    Ok(ending)
-}
-
-// The exit status of an ending.
-fn status_of(ending: Ending) -> u8 {
-    match ending {
-        Ending::Done => DONE,
-        Ending::Refused => REFUSED,
-        Ending::Failed => FAILED,
+fn heard(rt: &impl Print, said: Ending) -> Ending {
+    if let Err(Stop::Lost(_)) = said {
+        return said;
     }
+    rt.write_some(b"")?;
+    said
 }
 
 // Says that output was lost, but where a reader has heard enough and left: it knows that it did, and nobody else is told of it.
 fn complain_of_loss(rt: &impl Errors, error: io::Error) {
     if error.kind() != ErrorKind::BrokenPipe {
-        complain(rt, b"error: the output could not be written\n");
+        let _ = eprintln!(rt; "error: the output could not be written");
     }
 }
 
 // Ends the program; output that could not be written is an error.
-pub fn end(rt: &(impl Print + Errors), said: io::Result<Ending>) -> ExitCode {
+pub fn end(rt: &(impl Print + Errors), said: Ending) -> ExitCode {
     match heard(rt, said) {
-        Ok(ending) => ExitCode::from(status_of(ending)),
-        Err(error) => {
+        Ok(()) => ExitCode::SUCCESS,
+        Err(Stop::Refused) => ExitCode::from(REFUSED),
+        Err(Stop::Failed) => ExitCode::from(FAILED),
+        Err(Stop::Lost(error)) => {
             complain_of_loss(rt, error);
             ExitCode::from(FAILED)
         }

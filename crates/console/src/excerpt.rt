@@ -1,11 +1,8 @@
 // The line of the description that a load's refusal is about, as much of it as a terminal shows, with a mark under the place.
-ghost use Rattle.std.specs.Prelude.{◌≡◌, ◌≤◌, length};
+ghost use Rattle.std.specs.Prelude.{◌≤◌};
 
-use crate::buffer::put_byte;
-use crate::ending::say;
-use crate::sizes::front;
 use lines::field::line_end;
-use std::io;
+use std::{fmt, io};
 
 // The most bytes that are shown of a line.
 const SHOWN: usize = 120;
@@ -15,9 +12,21 @@ const FAR: usize = 90;
 
 const BEFORE: usize = 60;
 
-// A byte as it can be shown: itself, or a point where it is no printing one.
-fn shown(b: u8) -> u8 {
-    if (32 <= b) & (b <= 126) { b } else { 46 }
+// Bytes as they can be shown: each by itself, or by a point where it is no printing one.
+#[derive(Clone, Copy)]
+struct Shown<'a>(&'a [u8]);
+
+impl fmt::Display for Shown<'_> {
+    fn fmt<W: fmt::Write>(&self, f: &mut fmt::Formatter<W>) -> fmt::Result {
+        for b in self.0 {
+            f.write_char(if (b' '..=b'~').contains(b) {
+                *b as char
+            } else {
+                '.'
+            })?;
+        }
+        Ok(())
+    }
 }
 
 // How many bytes of a line are left out where so many stand before the place.
@@ -30,48 +39,22 @@ fn left_out(before: usize) -> usize
     before - BEFORE
 }
 
-// The byte at a place of a text, as it can be shown; a point past its end.
-fn shown_at(x: &[u8], i: usize) -> u8 {
-    if i < x.len() {
-        return shown(x[i]);
-    }
-    46
-}
-
-// Puts the bytes of x from a up to e, as they can be shown, as far as there is room; answers how many.
-fn put_shown(x: &[u8], a: usize, e: usize, out: &mut [u8]) -> usize
-    ensures { length out.new ≡ length out.old }
-{
-    let mut n: usize = 0;
-    let mut i = a;
-    while i < e {
-        n = put_byte(out, n, shown_at(x, i));
-        i += 1;
-    }
-    n
-}
-
-// Writes blanks.
-fn say_blanks(rt: &impl Print, many: usize) -> io::Result<()> {
-    let blanks = [32u8; SHOWN];
-    say(rt, front(&blanks, many))
+// The part of x from a up to e, as far as there is one and it is shown.
+fn shown_part(x: &[u8], a: usize, e: usize) -> Shown<'_> {
+    let part = x.get(a..e).unwrap_or(b"");
+    Shown(part.get(..SHOWN).unwrap_or(part))
 }
 
 // Writes the line that has the place, which stands in its column, and a mark below it.
 pub fn say_excerpt(rt: &impl Print, x: &[u8], place: usize, column: usize) -> io::Result<()> {
-    if column == 0 {
+    let Some(before) = column.checked_sub(1) else {
         return Ok(());
-    }
-    let before = column - 1;
-    if place < before {
+    };
+    let Some(start) = place.checked_sub(before) else {
         return Ok(());
-    }
-    let start = place - before;
+    };
     let skipped = left_out(before);
-    let mut line = [0u8; SHOWN];
-    let n = put_shown(x, start + skipped, line_end(x, start), &mut line);
-    say(rt, front(&line, n))?;
-    say(rt, b"\n")?;
-    say_blanks(rt, before - skipped)?;
-    say(rt, b"^\n")
+    let blanks = before - skipped;
+    println!(rt; "{}", shown_part(x, start + skipped, line_end(x, start)))?;
+    println!(rt; "{:blanks$}^", "")
 }

@@ -2,10 +2,11 @@
 #![tactic(auto)]
 
 pub mod arguments;
-pub mod buffer;
 pub mod called;
 pub mod ending;
 mod excerpt;
+pub mod kept;
 pub mod message;
 pub mod sizes;
 pub mod usage;
+pub mod word;

@@ -1,13 +1,13 @@
 // The program's sizes: "The program takes 32 KiB of description and 16 KiB of image."
 
 // The most bytes of a description and of a request file, and of an image; a buffer has one byte more, to tell a longer file.
-pub const TEXT_BYTES: usize = 32768;
+const TEXT_BYTES: usize = 32768;
 
-pub const TEXT_ROOM: usize = 32769;
+pub const TEXT_ROOM: usize = TEXT_BYTES + 1;
 
-pub const IMAGE_BYTES: usize = 16384;
+const IMAGE_BYTES: usize = 16384;
 
-pub const IMAGE_ROOM: usize = 16385;
+pub const IMAGE_ROOM: usize = IMAGE_BYTES + 1;
 
 // The bytes of a path or an argument.
 pub const WORD_ROOM: usize = 4096;
@@ -21,11 +21,3 @@ pub const TABLE_CELLS: usize = 36617;
 pub const WORK_CELLS: usize = 42578;
 
 pub const LINES: usize = 4096;
-
-// The front of a buffer: its first n bytes, all of it where it has fewer.
-pub fn front(s: &[u8], n: usize) -> &[u8] {
-    if n <= s.len() {
-        return &s[0..n];
-    }
-    s
-}

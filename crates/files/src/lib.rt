@@ -4,6 +4,7 @@
 pub mod file;
 mod link;
 mod note;
+mod obstacle;
 mod path;
 pub mod replace;
 mod status;

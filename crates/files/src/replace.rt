@@ -8,15 +8,15 @@
 // the same time, the later one takes the other for one that was ended: either the other is ahead, and then the later one wins, or its new
 // file is gone, and then it says an error and has written nothing. (A program whose note another has taken away so, and that is then ended
 // by force itself, leaves a new file that no note names.)
-use crate::link::{Resolved, resolve};
-use crate::note::{FIGURES, Noted, is_cleared, make_note, put_chance, put_new, remove_note};
-use crate::path::{create, folder_bytes, text_of};
+use crate::link::resolve;
+use crate::note::{clear, figures_by_chance, make_note, new_path, remove_note};
+use crate::obstacle::Obstacle;
+use crate::path::{create, folder_of, remove, rename, text_of};
 use crate::status::{Status, status_of};
 use console::arguments::IMAGE;
 use console::called::word_at;
 use console::ending::{Ending, Errors};
 use console::message::error_about;
-use console::sizes::{WORD_ROOM, front};
 use std::fs::{File, OpenFile, Permissions};
 use std::io::Write;
 use std::os::fd::AsFd;
@@ -38,126 +38,60 @@ pub trait Edits: Files<File = File> + Env + RandomSource + AllocGlobal + Errors 
 
 impl<R: Files<File = File> + Env + RandomSource + AllocGlobal + Errors> Edits for R {}
 
-// What became of it, or what stood in the way.
-#[derive(Clone, Copy)]
-enum Replaced {
-    Done,
-    Links,
-    Image,
-    Kind,
-    Folder,
-    Note,
-    Beside,
-    Other,
-}
-
-// Gives a file the image's group and owner, each where that is allowed, then the image's mode; false where the mode cannot be given.
-fn is_given(file: &(impl OpenFile + AsFd), status: Status) -> bool {
+// Gives a file the image's group and owner, each where that is allowed, then the image's mode.
+fn give(file: &(impl OpenFile + AsFd), status: Status) -> io::Result<()> {
     let _ = fchown(file, None, Some(status.group));
     let _ = fchown(file, Some(status.owner), None);
     file.set_permissions(Permissions::from_mode(status.mode & MODE_BITS))
-        .is_ok()
 }
 
-// Writes the bytes to a new file, which nobody else may read on the way, gives it what the image has and flushes it to the disk; false where
-// any of it fails.
-fn is_filled(mut file: impl Write + OpenFile + AsFd + Drop, status: Status, image: &[u8]) -> bool {
-    file.set_permissions(Permissions::from_mode(OWN_MODE))
-        .is_ok()
-        && file.write_all(image).is_ok()
-        && is_given(&file, status)
-        && file.sync_all().is_ok()
-}
-
-// Gives the new file the image's name; false where that fails.
-fn is_named(rt: &impl Files, new: &[u8], path: &[u8]) -> bool {
-    let Ok(from) = text_of(new) else {
-        return false;
-    };
-    let Ok(to) = text_of(path) else {
-        return false;
-    };
-    fs::rename(rt, from, to).is_ok()
-}
-
-// Removes the new file; false where that fails.
-fn is_removed(rt: &impl Files, new: &[u8]) -> bool {
-    let Ok(name) = text_of(new) else {
-        return false;
-    };
-    fs::remove_file(rt, name).is_ok()
+// Writes the bytes to a new file, which nobody else may read on the way, gives it what the image has and flushes it to the disk.
+fn fill(
+    mut file: impl Write + OpenFile + AsFd + Drop,
+    status: Status,
+    image: &[u8],
+) -> io::Result<()> {
+    file.set_permissions(Permissions::from_mode(OWN_MODE))?;
+    file.write_all(image)?;
+    give(&file, status)?;
+    file.sync_all()
 }
 
 // Writes the new file and gives it the image's name; removes it where that fails. Where it is gone, another program has taken it away.
-fn renamed(
+fn replace_by(
     rt: &impl Files<File = File>,
     path: &[u8],
     new: &[u8],
     status: Status,
     image: &[u8],
-) -> Replaced {
+) -> Result<(), Obstacle> {
     let Ok(file) = create(rt, new) else {
-        return Replaced::Beside;
+        return Err(Obstacle::Beside);
     };
-    if is_filled(file, status, image) && is_named(rt, new, path) {
-        return Replaced::Done;
+    if fill(file, status, image).is_ok() && rename(rt, new, path).is_ok() {
+        return Ok(());
     }
-    if is_removed(rt, new) {
-        return Replaced::Beside;
+    if remove(rt, new).is_ok() {
+        return Err(Obstacle::Beside);
     }
-    Replaced::Other
+    Err(Obstacle::Other)
 }
 
-// Replaces the file once the figures are noted, and takes the note away, unless another program has taken this one for ended: then it is
-// the other's.
-fn replaced_noted(
-    rt: &impl Files<File = File>,
-    path: &[u8],
-    figures: &[u8],
-    status: Status,
-    image: &[u8],
-) -> Replaced {
-    let mut new = [0u8; WORD_ROOM];
-    let k = put_new(path, figures, &mut new);
-    let r = renamed(rt, path, front(&new, k), status, image);
-    match r {
-        Replaced::Other => Replaced::Other,
-        _ => {
-            let _ = remove_note(rt, path);
-            r
-        }
-    }
-}
-
-// Notes the figures of the new file, and goes on with it.
-fn replaced_cleared(
+// Notes the figures of the new file, replaces the file, and takes the note away, unless another program has taken this one for ended: then
+// it is the other's.
+fn replace_noted(
     rt: &(impl Files<File = File> + RandomSource),
     path: &[u8],
     status: Status,
     image: &[u8],
-) -> Replaced {
-    let mut figures = [0u8; FIGURES];
-    put_chance(rt, &mut figures);
-    match make_note(rt, path, &figures) {
-        Noted::Made => replaced_noted(rt, path, &figures, status, image),
-        Noted::Taken => Replaced::Note,
-        Noted::Shut => Replaced::Folder,
-        Noted::Failed => Replaced::Beside,
+) -> Result<(), Obstacle> {
+    let figures = figures_by_chance(rt);
+    make_note(rt, path, &figures)?;
+    let replaced = replace_by(rt, path, new_path(path, &figures).bytes(), status, image);
+    if replaced != Err(Obstacle::Other) {
+        let _ = remove_note(rt, path);
     }
-}
-
-// Replaces a file that may be replaced: what an ended run left is removed, then the new file is noted, written and renamed.
-fn replaced_beside(
-    rt: &(impl Files<File = File> + RandomSource),
-    path: &[u8],
-    status: Status,
-    image: &[u8],
-) -> Replaced {
-    match is_cleared(rt, path) {
-        Ok(true) => replaced_cleared(rt, path, status, image),
-        Ok(false) => Replaced::Note,
-        Err(_) => Replaced::Folder,
-    }
+    replaced
 }
 
 // The status of what was opened, which is closed; an error where it could not be opened.
@@ -183,11 +117,8 @@ fn is_open(rt: &impl Files, folder: &[u8]) -> bool {
 
 // Whether the folder that holds a file may be written.
 fn is_folder_open(rt: &impl Files, path: &[u8]) -> bool {
-    let n = folder_bytes(path);
-    if n == 0 {
-        return is_open(rt, b".");
-    }
-    is_open(rt, front(path, n))
+    let folder = folder_of(path);
+    is_open(rt, if folder.is_empty() { b"." } else { folder })
 }
 
 // Opens a file to read and write it.
@@ -198,81 +129,37 @@ fn open_update<R: Files>(rt: &R, path: &[u8]) -> io::Result<R::File> {
         .open(rt, text_of(path)?)
 }
 
-// Replaces a file that is no link, where it and its folder may be written.
-fn replaced_file(
-    rt: &(impl Files<File = File> + RandomSource),
-    path: &[u8],
-    image: &[u8],
-) -> Replaced {
+// The status of a file that is no link, where it and its folder may be written.
+fn status_to_replace(rt: &impl Files, path: &[u8]) -> Result<Status, Obstacle> {
     let Ok(status) = status_closed(open_update(rt, path)) else {
-        return Replaced::Image;
+        return Err(Obstacle::Image);
     };
     if !status.ordinary {
-        return Replaced::Kind;
+        return Err(Obstacle::Kind);
     }
     if !is_write_mode(status.mode) {
-        return Replaced::Image;
+        return Err(Obstacle::Image);
     }
     if !is_folder_open(rt, path) {
-        return Replaced::Folder;
+        return Err(Obstacle::Folder);
     }
-    replaced_beside(rt, path, status, image)
+    Ok(status)
 }
 
-// Replaces the file that a path stands for.
-fn replaced_at(
+// Replaces the file that a path stands for: what an ended run left is removed, then the new file is noted, written and renamed.
+fn replace_at(
     rt: &(impl Files<File = File> + RandomSource + AllocGlobal),
     path: &[u8],
     image: &[u8],
-) -> Replaced {
-    let mut file = [0u8; WORD_ROOM];
-    match resolve(rt, path, &mut file) {
-        Ok(Resolved::At(n)) => replaced_file(rt, front(&file, n), image),
-        Ok(Resolved::Nothing) => Replaced::Links,
-        Err(_) => Replaced::Beside,
-    }
+) -> Result<(), Obstacle> {
+    let file = resolve(rt, path)?;
+    let status = status_to_replace(rt, file.bytes())?;
+    clear(rt, file.bytes())?;
+    replace_noted(rt, file.bytes(), status, image)
 }
 
-// What stood in the way, in words before the image's path; none where it was replaced.
-fn obstacle(r: Replaced) -> &'static [u8] {
-    match r {
-        Replaced::Done => b"",
-        Replaced::Links => {
-            b"nothing is written, since there are too many links, or too long ones, at "
-        }
-        Replaced::Image => b"nothing is written, since the image may not be written: ",
-        Replaced::Kind => b"nothing is written, since this is no ordinary file: ",
-        Replaced::Folder => {
-            b"nothing is written, since the folder may not be written that holds "
-        }
-        Replaced::Note => {
-            b"nothing is written, since another file has the name of the note (the image's with .writing after it) beside "
-        }
-        Replaced::Beside => b"nothing is written, since no new file can be made beside ",
-        Replaced::Other => b"nothing is written, since another program writes at the same time: ",
-    }
-}
-
-// Says what stood in the way.
-fn complain_about(rt: &impl Errors, r: Replaced, path: &[u8]) -> Ending {
-    error_about(rt, obstacle(r), path)
-}
-
-// Whether the file was replaced; what stood in the way is said.
-fn is_done(rt: &impl Errors, r: Replaced, path: &[u8]) -> bool {
-    match r {
-        Replaced::Done => true,
-        _ => {
-            complain_about(rt, r, path);
-            false
-        }
-    }
-}
-
-// Replaces the image's file; an error is said, and then the file is as it was.
-pub fn is_kept(rt: &impl Edits, image: &[u8]) -> bool {
-    let mut path = [0u8; WORD_ROOM];
-    let n = word_at(rt, IMAGE, &mut path);
-    let r = replaced_at(rt, front(&path, n), image);
-    is_done(rt, r, front(&path, n))
+// Replaces the image's file; where something stands in the way, that is said, and the file is as it was.
+pub fn keep(rt: &impl Edits, image: &[u8]) -> Ending {
+    let path = word_at(rt, IMAGE);
+    replace_at(rt, path.bytes(), image).map_err(|obstacle| error_about(rt, obstacle, path.bytes()))
 }

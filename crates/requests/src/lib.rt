@@ -2,4 +2,5 @@
 #![tactic(auto)]
 
 pub mod limits;
+pub mod made;
 pub mod requested;

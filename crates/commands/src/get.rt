@@ -1,167 +1,81 @@
 // The command `get`: one element's line, and its fraction rounded to six places.
-use cell::size::size;
-use console::arguments::{INDEX, NAME, PART};
-use console::called::word_at;
-use console::ending::{Ending, Errors, say, say_number};
+use crate::element::element_typed;
+use console::ending::{Ending, Errors, Stop};
+use console::kept::{Element, Loaded};
 use console::message::refused;
-use console::sizes::{LINES, WORD_ROOM, front};
 use convert::fraction::{Physical, Shown};
-use list::make::make_list;
-use look::call::CallAnswer;
 use look::read::{ReadAnswer, read};
-use places::six::{Six, six_places};
-use printing::printed::is_line_printed;
-use requests::requested::{ElementTyped, element_named, error_of};
-use std::io;
+use places::six::six_places;
+use printing::printed::print_line;
+use requests::made::kept_list;
+use std::fmt;
 use std::rt::Env;
 
-// How many millionths one has.
-const MILLION: u64 = 1000000;
+// What the figures after the point stand for.
+const PLACES: [u64; 6] = [100000, 10000, 1000, 100, 10, 1];
 
-// Writes millionths as the figures after the point, without needless zeros at the end.
-fn say_places(rt: &impl Print, millionths: u64) -> io::Result<()> {
-    let mut left = millionths % MILLION;
-    let mut ten = MILLION / 10;
-    if left == 0 {
-        return Ok(());
-    }
-    say(rt, b".")?;
-    while 0 < left {
-        if ten == 0 {
+// Millionths as the figures after the point, without needless zeros at the end.
+#[derive(Clone, Copy)]
+struct Millionths(u64);
+
+impl fmt::Display for Millionths {
+    fn fmt<W: fmt::Write>(&self, f: &mut fmt::Formatter<W>) -> fmt::Result {
+        let mut left = self.0;
+        if left == 0 {
             return Ok(());
         }
-        say_number(rt, left / ten)?;
-        left = left % ten;
-        ten = ten / 10;
-    }
-    Ok(())
-}
-
-// Writes a minus before a number that is not zero in six places.
-fn say_sign(rt: &impl Print, z: i64, six: Six) -> io::Result<()> {
-    if z < 0 {
-        if (0 < six.whole) | (0 < six.millionths) {
-            return say(rt, b"-");
-        }
-    }
-    Ok(())
-}
-
-// Writes a fraction rounded to six places.
-fn say_rounded(rt: &impl Print, p: Physical) -> io::Result<()> {
-    let six = six_places(size(p.first), size(p.second));
-    say(rt, b"rounded\t")?;
-    say_sign(rt, p.first, six)?;
-    say_number(rt, six.whole)?;
-    say_places(rt, six.millionths)?;
-    say(rt, b"\n")
-}
-
-// Writes the fraction of a value that shows a number, rounded.
-fn print_rounded(rt: &impl Print, p: Physical, shown: Shown) -> io::Result<()> {
-    match shown {
-        Shown::Real(_) => say_rounded(rt, p),
-        Shown::Words(_, _) => Ok(()),
-        Shown::Nothing => Ok(()),
-    }
-}
-
-// Writes the line of an element from a list of the image, and its fraction rounded.
-fn print_element(
-    rt: &impl Print,
-    x: &[u8],
-    image: &[u8],
-    base: u32,
-    t: &[u64],
-    object: u32,
-    part: u8,
-    index: u32,
-    p: Physical,
-    shown: Shown,
-) -> io::Result<Ending> {
-    let mut raw = [0i64; LINES];
-    let mut state = [0u8; LINES];
-    let mut first = [0i64; LINES];
-    let mut second = [0i64; LINES];
-    match make_list(
-        x,
-        image,
-        base,
-        t,
-        &mut raw,
-        &mut state,
-        &mut first,
-        &mut second,
-    ) {
-        CallAnswer::Done => {
-            if is_line_printed(
-                rt, x, image, base, t, object, part, index, &raw, &state, &first, &second,
-            )? {
-                print_rounded(rt, p, shown)?;
-                return Ok(Ending::Done);
+        f.write_char('.')?;
+        for place in PLACES {
+            if left == 0 {
+                break;
             }
-            Ok(Ending::Refused)
+            write!(f, "{}", left / place)?;
+            left %= place;
         }
-        CallAnswer::Refused { no } => refused(rt, no),
+        Ok(())
+    }
+}
+
+// A fraction rounded to six places, with a minus before one that is not zero then.
+#[derive(Clone, Copy)]
+struct Rounded(Physical);
+
+impl fmt::Display for Rounded {
+    fn fmt<W: fmt::Write>(&self, f: &mut fmt::Formatter<W>) -> fmt::Result {
+        let Rounded(p) = *self;
+        let six = six_places(p.first.unsigned_abs(), p.second.unsigned_abs());
+        if p.first < 0 && (0 < six.whole || 0 < six.millionths) {
+            f.write_char('-')?;
+        }
+        write!(f, "{}{}", six.whole, Millionths(six.millionths))
     }
 }
 
 // Reads an element.
-fn get_element(
+fn read_element(
     rt: &impl Print,
-    x: &[u8],
+    d: Loaded<'_>,
     image: &[u8],
-    base: u32,
-    t: &[u64],
-    object: u32,
-    part: u8,
-    index: u32,
-) -> io::Result<Ending> {
-    match read(x, image, base, t, object, part, index) {
+    e: Element,
+) -> Result<(Physical, Shown), Stop> {
+    match read(d.x, image, d.base, d.t, e.object, e.part, e.index) {
         ReadAnswer::Element {
             raw: _,
             physical,
             shown,
-        } => print_element(rt, x, image, base, t, object, part, index, physical, shown),
-        ReadAnswer::Refused { no } => refused(rt, no),
+        } => Ok((physical, shown)),
+        ReadAnswer::Refused { no } => Err(refused(rt, no)),
     }
 }
 
-// Reads the element that the arguments name.
-pub fn get(
-    rt: &(impl Print + Errors + Env),
-    x: &[u8],
-    image: &[u8],
-    base: u32,
-    t: &[u64],
-) -> io::Result<Ending> {
-    let mut name = [0u8; WORD_ROOM];
-    let mut letter = [0u8; WORD_ROOM];
-    let mut number = [0u8; WORD_ROOM];
-    let n = word_at(rt, NAME, &mut name);
-    let l = word_at(rt, PART, &mut letter);
-    let k = word_at(rt, INDEX, &mut number);
-    match element_named(
-        rt,
-        x,
-        image,
-        base,
-        t,
-        front(&name, n),
-        front(&letter, l),
-        front(&number, k),
-    )? {
-        ElementTyped::At {
-            object,
-            part,
-            index,
-        } => get_element(rt, x, image, base, t, object, part, index),
-        ElementTyped::Wrong { why } => Ok(error_of(
-            rt,
-            why,
-            front(&name, n),
-            front(&number, k),
-            b"",
-        )),
+// Writes the line of the element that the arguments name, and its fraction rounded where it shows a number.
+pub fn get(rt: &(impl Print + Errors + Env), d: Loaded<'_>, image: &[u8]) -> Ending {
+    let element = element_typed(rt, d, image)?;
+    let (physical, shown) = read_element(rt, d, image, element)?;
+    let kept = kept_list(rt, d, image)?;
+    print_line(rt, d, image, &kept, element)?;
+    if let Shown::Real(_) = shown {
+        println!(rt; "rounded\t{}", Rounded(physical))?;
     }
+    Ok(())
 }

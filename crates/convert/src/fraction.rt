@@ -8,6 +8,7 @@ pub const NUMBER: u8 = 1;
 pub const TEXT: u8 = 2;
 
 // A physical value as a line of the list holds it: the fraction's two numbers, or the text's first byte and the one past it.
+// No enum: the C interface's columns hold a value as these three cells, one in each.
 #[derive(Clone, Copy)]
 pub struct Physical {
     pub state: u8,
@@ -16,6 +17,7 @@ pub struct Physical {
 }
 
 // A shown value: a number, a text's two byte places, or nothing.
+// No Option: one match tells the three apart, where an Option of two kinds would need two.
 #[derive(Clone, Copy)]
 pub enum Shown {
     Real(f64),

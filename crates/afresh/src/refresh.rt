@@ -14,17 +14,8 @@ use look::meaning::{Meaning, line_by, meaning_of};
 use tables::form::{GROUP, count_of};
 use tables::group::{Storage, elements_of, storage_of};
 
-// Stores a number in a column; nothing past its end.
-fn put(column: &mut [i64], k: usize, v: i64)
-    ensures { column.new ≡ set column.old k v }
-{
-    if k < column.len() {
-        column[k] = v;
-    }
-}
-
-// Stores a state in its column; nothing past its end.
-fn put_state(column: &mut [u8], k: usize, v: u8)
+// Stores a value in a lent slice; nothing past its end.
+pub fn put<T: Copy>(column: &mut [T], k: usize, v: T)
     ensures { column.new ≡ set column.old k v }
 {
     if k < column.len() {
@@ -45,7 +36,7 @@ fn put_line(
         × (first.new ≡ set first.old k line.first) × (second.new ≡ set second.old k line.second) }
 {
     put(raw, k, line.raw);
-    put_state(state, k, line.state);
+    put(state, k, line.state);
     put(first, k, line.first);
     put(second, k, line.second);
 }
@@ -83,10 +74,7 @@ fn passes(all: bool, s: Storage, lo: u64, many: u64) -> bool
     requires { IsModest s }
     ensures { result ≡ true → (i : ℕ) → i < s.x * s.y → (all || shares lo (lo + many) (place_by s i) (shape_of s.kind).bytes) ≡ false }
 {
-    if all {
-        return false;
-    }
-    lies_apart(s, lo, many)
+    !all && lies_apart(s, lo, many)
 }
 
 // The n lines of group g, the first of them line k.
@@ -118,8 +106,7 @@ fn refresh_group(
         return;
     }
     let m = meaning_of(t, g);
-    let mut i: u64 = 0;
-    while i < n {
+    for i in 0..n {
         refresh_line(
             t,
             image,
@@ -135,7 +122,6 @@ fn refresh_group(
             i,
             k + (i as usize),
         );
-        i += 1;
     }
 }
 
@@ -157,14 +143,12 @@ pub fn refresh(
         (kept image.now raw.old state.old first.old second.old) }
 {
     let n = count_of(t, GROUP);
-    let mut g: u16 = 0;
     let mut k: usize = 0;
-    while g < n {
+    for g in 0..n {
         let count = elements_of(t, g);
         refresh_group(
             t, image, raw, state, first, second, all, lo, many, g, count, k,
         );
         k += count as usize;
-        g += 1;
     }
 }

@@ -9,7 +9,6 @@ use console::sizes::TEXT_ROOM;
 use files::file::read_file;
 use files::replace::{Edits, keep};
 use lines::field::{field_count, field_of};
-use look::call::CallAnswer;
 use printing::printed::print_listing;
 use requests::made::kept_list;
 use requests::requested::{Way, Wrong, element_named, way_of, write_one};
@@ -112,8 +111,8 @@ fn answer_to(
 ) -> io::Result<Answer> {
     match request_in(d, image, line) {
         Ok(r) => match write_one(d, image, kept, r.element, r.way, r.value) {
-            CallAnswer::Done => Ok(Answer::Done),
-            CallAnswer::Refused { no } => Ok(Answer::Refused(no)),
+            Ok(()) => Ok(Answer::Done),
+            Err(r) => Ok(Answer::Refused(r.number())),
         },
         Err(Wrong::Refused(no)) => {
             say_refusal(rt, no)?;

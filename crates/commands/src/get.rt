@@ -4,7 +4,7 @@ use console::ending::{Ending, Errors, Stop};
 use console::kept::{Element, Loaded};
 use console::message::refused;
 use convert::fraction::{Physical, Shown};
-use look::read::{ReadAnswer, read};
+use look::read::read;
 use places::six::six_places;
 use printing::printed::print_line;
 use requests::made::kept_list;
@@ -59,12 +59,8 @@ fn read_element(
     e: Element,
 ) -> Result<(Physical, Shown), Stop> {
     match read(d.x, image, d.base, d.t, e.object, e.part, e.index) {
-        ReadAnswer::Element {
-            raw: _,
-            physical,
-            shown,
-        } => Ok((physical, shown)),
-        ReadAnswer::Refused { no } => Err(refused(rt, no)),
+        Ok(r) => Ok((r.physical, r.shown)),
+        Err(r) => Err(refused(rt, r.number())),
     }
 }
 

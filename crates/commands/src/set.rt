@@ -5,7 +5,6 @@ use console::called::word_at;
 use console::ending::Ending;
 use console::kept::{Columns, Element, Loaded};
 use files::replace::{Edits, keep};
-use look::call::CallAnswer;
 use look::check::group_of;
 use printing::printed::print_afresh;
 use requests::limits::refused_write;
@@ -23,8 +22,8 @@ fn set_kept(
     value: &[u8],
 ) -> Ending {
     let g = group_of(element.object, element.part);
-    if let CallAnswer::Refused { no } = write_one(d, image, kept, element, way, value) {
-        return Err(refused_write(rt, d.t, g, value, no));
+    if let Err(r) = write_one(d, image, kept, element, way, value) {
+        return Err(refused_write(rt, d.t, g, value, r.number()));
     }
     keep(rt, image)?;
     print_afresh(rt, d, image, kept, g, element.index)

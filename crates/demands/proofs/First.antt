@@ -8,13 +8,13 @@
 --     search-refused .. line_refused                the numbers that every other call is refused by, in its order
 --     refused-write, refused-list                   "No refusal touches image or list."
 --     found, found_none                             what the search finds
+use Rattle.std.specs.Prelude.{Option, Result}
 use Prim.Native.Nat.{ℕ, suc, ◌≤◌, ◌<◌}
 use mathlib.Core.Path.{◌≡◌}
 use mathlib.Core.List.{List, [], ◌∷◌}
 use mathlib.Core.Bool.{false}
 use mathlib.Core.Logic.{◌⊎◌}
 use lib.ListN.{length, replicate}
-use Rattle.std.specs.Prelude.{Result}
 use Rattle.text.specs.Answer.{refused}
 use Rattle.number.specs.Answer as number
 use Rattle.tables.specs.declared.setting.Setting.{Setting}
@@ -23,15 +23,13 @@ use Rattle.load.specs.Load.{loaded, loaded_of}
 use Rattle.text.specs.declared.cursor.Refusal as text
 use Rattle.look.specs.Calls.{Lent, searched, reading, Kept, making, Request, writing}
 use Rattle.look.specs.Told.{told_search, told_read, after}
-use Rattle.look.specs.declared.search.SearchAnswer.{SearchAnswer}
-use Rattle.look.specs.declared.read.ReadAnswer.{ReadAnswer}
-use Rattle.look.specs.declared.call.CallAnswer.{CallAnswer}
+use Rattle.look.specs.declared.refusal.CallRefusal.{CallRefusal}
+use Rattle.look.specs.declared.read.Reading as code
 use Rattle.demands.proofs.Runs as runs
 use Rattle.demands.proofs.Searched as search
 use Rattle.look.proofs.Numbers as numbers
 use Rattle.look.proofs.Numbers.{RefusedBy}
 use Rattle.listing.specs.Listing.{listing, printing, listed_of}
-use Rattle.listing.specs.declared.listing.ListingAnswer.{ListingAnswer}
 use Rattle.numbers.specs.Numbers.{load_number}
 use Rattle.numbers.specs.Back.{load_back}
 use Rattle.refusals.specs.Refusals.{Refusal}
@@ -45,23 +43,23 @@ pub one-load : (x image : List ℕ) (setting : Setting) (tables work : List ℕ)
     → loaded_of r t w ≡ loaded x image setting tables work → loaded_of s u v ≡ loaded x image setting tables work → (r ≡ s) × (t ≡ u) × (w ≡ v)
 one-load = ones.load_one
 
-pub one-search : (x t n : List ℕ) (l : Lent) (r s : SearchAnswer) → told_search r ≡ searched x t l n → told_search s ≡ searched x t l n → r ≡ s
+pub one-search : (x t n : List ℕ) (l : Lent) (r s : Result (Option ℕ) CallRefusal) → told_search r ≡ searched x t l n → told_search s ≡ searched x t l n → r ≡ s
 one-search = runs.search-one
 
-pub one-read : (t image : List ℕ) (l : Lent) (o p i : ℕ) (r s : ReadAnswer) → told_read r ≡ reading t image l o p i → told_read s ≡ reading t image l o p i → r ≡ s
+pub one-read : (t image : List ℕ) (l : Lent) (o p i : ℕ) (r s : Result code.Reading CallRefusal) → told_read r ≡ reading t image l o p i → told_read s ≡ reading t image l o p i → r ≡ s
 one-read = runs.read_one
 
-pub one_list : (t : List ℕ) (n base : ℕ) (k a b : Kept) (r s : CallAnswer) → after r a ≡ making t n base k → after s b ≡ making t n base k → (r ≡ s) × (a ≡ b)
+pub one_list : (t : List ℕ) (n base : ℕ) (k a b : Kept) (r s : Result (Unit {0}) CallRefusal) → after r a ≡ making t n base k → after s b ≡ making t n base k → (r ≡ s) × (a ≡ b)
 one_list = runs.make-one
 
-pub one-write : (t : List ℕ) (n base : ℕ) (k a b : Kept) (q : Request) (r s : CallAnswer) → after r a ≡ writing t n base k q → after s b ≡ writing t n base k q → (r ≡ s) × (a ≡ b)
+pub one-write : (t : List ℕ) (n base : ℕ) (k a b : Kept) (q : Request) (r s : Result (Unit {0}) CallRefusal) → after r a ≡ writing t n base k q → after s b ≡ writing t n base k q → (r ≡ s) × (a ≡ b)
 one-write = runs.write-one
 
-pub one-listing : (x t : List ℕ) (base : ℕ) (k : Kept) (out : List ℕ) (r s : ListingAnswer) (o u : List ℕ)
+pub one-listing : (x t : List ℕ) (base : ℕ) (k : Kept) (out : List ℕ) (r s : Result ℕ CallRefusal) (o u : List ℕ)
     → listed_of r o ≡ listing x t base k out → listed_of s u ≡ listing x t base k out → (r ≡ s) × (o ≡ u)
 one-listing = ones.listing-one
 
-pub one_line : (x t : List ℕ) (base : ℕ) (k : Kept) (object part index : ℕ) (out : List ℕ) (r s : ListingAnswer) (o u : List ℕ)
+pub one_line : (x t : List ℕ) (base : ℕ) (k : Kept) (object part index : ℕ) (out : List ℕ) (r s : Result ℕ CallRefusal) (o u : List ℕ)
     → listed_of r o ≡ printing x t base k object part index out → listed_of s u ≡ printing x t base k object part index out → (r ≡ s) × (o ≡ u)
 one_line = ones.line-one
 

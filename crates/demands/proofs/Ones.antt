@@ -1,10 +1,10 @@
 -- THE FIRST DEMAND: "Each public call's promise leaves one result and one content of lent memory per input, refusals too."
 --     load_one, listing-one, line-one     two outcomes of one call are the same (for the others: list, Demand)
 --     c-load-one, c-find-one, c-read-one, c-list-one, c-listing-one     the same of the C functions; c-list-one is for making a list and both writes
+use Rattle.std.specs.Prelude.{Result, Ok, Err}
 use Prim.Native.Nat.{ℕ}
 use mathlib.Core.Path.{◌≡◌, refl, sym, ◌∙◌, ap}
 use mathlib.Core.List.{List}
-use Rattle.std.specs.Prelude.{Result, Ok, Err}
 use Rattle.text.specs.declared.cursor.Refusal.{Refusal}
 use Rattle.text.specs.Answer as text
 use Rattle.number.specs.Answer as number
@@ -12,8 +12,8 @@ use Rattle.tables.specs.declared.setting.Setting.{Setting}
 use Rattle.load.specs.Load.{Loaded, loaded, loaded_of}
 use Rattle.look.specs.Calls.{Kept}
 use Rattle.listing.specs.Listing.{Listed, listing, printing, listed_of}
-use Rattle.listing.specs.declared.listing.ListingAnswer.{ListingAnswer}
-use Rattle.listing.specs.declared.listing.ListingAnswer.TheVariants as written
+use Rattle.look.specs.declared.refusal.CallRefusal.{CallRefusal}
+use Rattle.look.proofs.CheckLaws.{refusal_by, refusal_back}
 use lib.Ieee.{Float}
 use lib.IntN.{ℤ}
 use Rattle.look.specs.Calls.{Lent, searched, reading, After}
@@ -46,19 +46,19 @@ load_one x image setting tables work r s t u w v p q =
       sym (work-back r t w) ∙ ap (λ (l : Loaded). l.work) e ∙ work-back s u v,
     )
 
-abbrev listing_answer : number.Answer ℕ → ListingAnswer
-listing_answer (number.given n) = written.Written n
-listing_answer (number.refused n) = written.Refused n
+abbrev listing_answer : number.Answer ℕ → Result ℕ CallRefusal
+listing_answer (number.given n) = Ok n
+listing_answer (number.refused n) = Err (refusal_by n)
 
-listing-back : (r : ListingAnswer) (o : List ℕ) → listing_answer (listed_of r o).answer ≡ r
-listing-back (written.Written n) o = refl
-listing-back (written.Refused n) o = refl
+listing-back : (r : Result ℕ CallRefusal) (o : List ℕ) → listing_answer (listed_of r o).answer ≡ r
+listing-back (Ok n) o = refl
+listing-back (Err r) o = ap (λ (z : CallRefusal). Err z) (refusal_back r)
 
-out-back : (r : ListingAnswer) (o : List ℕ) → (listed_of r o).out ≡ o
-out-back (written.Written n) o = refl
-out-back (written.Refused n) o = refl
+out-back : (r : Result ℕ CallRefusal) (o : List ℕ) → (listed_of r o).out ≡ o
+out-back (Ok n) o = refl
+out-back (Err r) o = refl
 
-same-listed : (l : Listed) (r s : ListingAnswer) (o u : List ℕ) → listed_of r o ≡ l → listed_of s u ≡ l → (r ≡ s) × (o ≡ u)
+same-listed : (l : Listed) (r s : Result ℕ CallRefusal) (o u : List ℕ) → listed_of r o ≡ l → listed_of s u ≡ l → (r ≡ s) × (o ≡ u)
 same-listed l r s o u p q =
     let e : listed_of r o ≡ listed_of s u = p ∙ sym q in (
       sym (listing-back r o) ∙ ap (λ (l : Listed). listing_answer l.answer) e ∙ listing-back s u,
@@ -66,12 +66,12 @@ same-listed l r s o u p q =
     )
 
 -- the whole listing, in a lent buffer
-pub listing-one : (x t : List ℕ) (base : ℕ) (k : Kept) (out : List ℕ) (r s : ListingAnswer) (o u : List ℕ)
+pub listing-one : (x t : List ℕ) (base : ℕ) (k : Kept) (out : List ℕ) (r s : Result ℕ CallRefusal) (o u : List ℕ)
     → listed_of r o ≡ listing x t base k out → listed_of s u ≡ listing x t base k out → (r ≡ s) × (o ≡ u)
 listing-one x t base k out r s o u = same-listed (listing x t base k out) r s o u
 
 -- one element's line
-pub line-one : (x t : List ℕ) (base : ℕ) (k : Kept) (object part index : ℕ) (out : List ℕ) (r s : ListingAnswer) (o u : List ℕ)
+pub line-one : (x t : List ℕ) (base : ℕ) (k : Kept) (object part index : ℕ) (out : List ℕ) (r s : Result ℕ CallRefusal) (o u : List ℕ)
     → listed_of r o ≡ printing x t base k object part index out → listed_of s u ≡ printing x t base k object part index out → (r ≡ s) × (o ≡ u)
 line-one x t base k object part index out r s o u = same-listed (printing x t base k object part index out) r s o u
 

@@ -8,6 +8,7 @@
 --     reading-of     what a reading that is given says
 --     search-one, read_one, make-one, write-one     a contract leaves one result
 -- Assumes nothing.
+use Rattle.std.specs.Prelude.{Option, Some, None, Result, Ok, Err}
 use mathlib.Core.Path.{◌≡◌, refl, sym, ap, ◌∙◌, subst}
 use mathlib.Core.List.{List, [], ◌∷◌}
 use mathlib.Core.Bool.{Bool, true, false, cond, ◌&&◌}
@@ -34,37 +35,34 @@ use Rattle.look.specs.Calls.{Lent, lent_of, lent_by, checked, is_element, search
 use Rattle.look.specs.Steps.{refusal_of}
 use Rattle.demands.specs.Runs.{running}
 use Rattle.look.specs.Told.{told_search, told_read, told_call, after}
-use Rattle.look.specs.declared.search.SearchAnswer.{SearchAnswer}
-use Rattle.look.specs.declared.search.SearchAnswer.TheVariants as search
-use Rattle.look.specs.declared.read.ReadAnswer.{ReadAnswer}
-use Rattle.look.specs.declared.read.ReadAnswer.TheVariants as read
+use Rattle.look.specs.Refused.{refusal_number}
+use Rattle.look.specs.declared.refusal.CallRefusal.{CallRefusal}
+use Rattle.look.specs.declared.read.Reading as code
 use Rattle.convert.specs.Shown.{Display, real, words, nothing}
 use Rattle.convert.specs.Told.{told_shown}
 use Rattle.convert.specs.declared.fraction.Shown.{Shown}
 use Rattle.convert.specs.declared.fraction.Shown.TheVariants as shown
-use Rattle.look.specs.declared.call.CallAnswer.{CallAnswer}
-use Rattle.look.specs.declared.call.CallAnswer.TheVariants as call
-use Rattle.look.proofs.CheckLaws.{checked-tests}
+use Rattle.look.proofs.CheckLaws.{refusal_by, refusal_back, same_refusal, checked-tests}
 use Rattle.list.proofs.Writer.{past-made, Anew, start-anew, image-made, remade-again, room-remade}
 use Rattle.list.proofs.Writes.{never, same-given, mask-inside, accepted, wanted-fits, wanted-raw, by_answer, low, high, apart-line, past-line, write-anew, length-stored, bytes-stored, bits-stored, raw-stored, image-after, same-refused, refused-answer}
 
 -- answers that say the same are the same
-same_answer : (r s : CallAnswer) → told_call r ≡ told_call s → r ≡ s
-same_answer call.Done call.Done e = refl
-same_answer call.Done (call.Refused m) e = absurd (never m (tt {0}) (sym e))
-same_answer (call.Refused m) call.Done e = absurd (never m (tt {0}) e)
-same_answer (call.Refused m) (call.Refused k) e = ap (λ (z : ℕ). call.Refused z) (same-refused m k e)
+same_answer : (r s : Result (Unit {0}) CallRefusal) → told_call r ≡ told_call s → r ≡ s
+same_answer (Ok u) (Ok v) e = refl
+same_answer (Ok u) (Err m) e = absurd (never (refusal_number m) (tt {0}) (sym e))
+same_answer (Err m) (Ok u) e = absurd (never (refusal_number m) (tt {0}) e)
+same_answer (Err m) (Err k) e = ap (λ (z : CallRefusal). Err z) (same_refusal m k (same-refused (refusal_number m) (refusal_number k) e))
 
-same-found : (r s : SearchAnswer) → told_search r ≡ told_search s → r ≡ s
-same-found (search.At i) (search.At j) e = ap (λ (z : ℕ). search.At z) (let z : suc i ≡ suc j = same-given (suc i) (suc j) e in omega arith)
-same-found (search.At i) search.Nothing e = absurd (let z : suc i ≡ 0 = same-given (suc i) 0 e in omega arith)
-same-found (search.At i) (search.Refused m) e = absurd (never m (suc i) (sym e))
-same-found search.Nothing (search.At j) e = absurd (let z : 0 ≡ suc j = same-given 0 (suc j) e in omega arith)
-same-found search.Nothing search.Nothing e = refl
-same-found search.Nothing (search.Refused m) e = absurd (never m 0 (sym e))
-same-found (search.Refused m) (search.At j) e = absurd (never m (suc j) e)
-same-found (search.Refused m) search.Nothing e = absurd (never m 0 e)
-same-found (search.Refused m) (search.Refused k) e = ap (λ (z : ℕ). search.Refused z) (same-refused m k e)
+same-found : (r s : Result (Option ℕ) CallRefusal) → told_search r ≡ told_search s → r ≡ s
+same-found (Ok (Some i)) (Ok (Some j)) e = ap (λ (z : ℕ). Ok (Some z)) (let z : suc i ≡ suc j = same-given (suc i) (suc j) e in omega arith)
+same-found (Ok (Some i)) (Ok None) e = absurd (let z : suc i ≡ 0 = same-given (suc i) 0 e in omega arith)
+same-found (Ok (Some i)) (Err m) e = absurd (never (refusal_number m) (suc i) (sym e))
+same-found (Ok None) (Ok (Some j)) e = absurd (let z : 0 ≡ suc j = same-given 0 (suc j) e in omega arith)
+same-found (Ok None) (Ok None) e = refl
+same-found (Ok None) (Err m) e = absurd (never (refusal_number m) 0 (sym e))
+same-found (Err m) (Ok (Some j)) e = absurd (never (refusal_number m) (suc j) e)
+same-found (Err m) (Ok None) e = absurd (never (refusal_number m) 0 e)
+same-found (Err m) (Err k) e = ap (λ (z : CallRefusal). Err z) (same_refusal m k (same-refused (refusal_number m) (refusal_number k) e))
 
 -- what is lent: the tables t, n bytes of description, the base address; an image and a list are what is kept
 module _ (t : List ℕ) (n base : ℕ) where
@@ -263,10 +261,10 @@ module _ (t : List ℕ) (n base : ℕ) where
       answers (refused c) = refl
 
   -- ---- a contract leaves one result
-  pub make-one : (k a b : Kept) (r s : CallAnswer) → after r a ≡ making t n base k → after s b ≡ making t n base k → (r ≡ s) × (a ≡ b)
+  pub make-one : (k a b : Kept) (r s : Result (Unit {0}) CallRefusal) → after r a ≡ making t n base k → after s b ≡ making t n base k → (r ≡ s) × (a ≡ b)
   make-one k a b r s x y = (same_answer r s (ap (λ (z : After). z.answer) (x ∙ sym y)), ap (λ (z : After). z.left) (x ∙ sym y))
 
-  pub write-one : (k a b : Kept) (q : Request) (r s : CallAnswer) → after r a ≡ writing t n base k q → after s b ≡ writing t n base k q → (r ≡ s) × (a ≡ b)
+  pub write-one : (k a b : Kept) (q : Request) (r s : Result (Unit {0}) CallRefusal) → after r a ≡ writing t n base k q → after s b ≡ writing t n base k q → (r ≡ s) × (a ≡ b)
   write-one k a b q r s x y = (same_answer r s (ap (λ (z : After). z.answer) (x ∙ sym y)), ap (λ (z : After). z.left) (x ∙ sym y))
 
 -- a reading that is given is that of an element, by tables that keep the rule
@@ -285,7 +283,7 @@ reading-of t image l o p i r =
     go true true false h = absurd (never 14 r h)
     go true true true h = (refl, refl, same-given y r h)
 
-pub search-one : (x t w : List ℕ) (l : Lent) (r s : SearchAnswer) → told_search r ≡ searched x t l w → told_search s ≡ searched x t l w → r ≡ s
+pub search-one : (x t w : List ℕ) (l : Lent) (r s : Result (Option ℕ) CallRefusal) → told_search r ≡ searched x t l w → told_search s ≡ searched x t l w → r ≡ s
 search-one x t w l r s p q = same-found r s (p ∙ sym q)
 
 -- what an answer told says which answer it was
@@ -299,13 +297,13 @@ shown-back (shown.Real x) = refl
 shown-back (shown.Words a b) = refl
 shown-back shown.Nothing = refl
 
-abbrev read_of : Answer Reading → ReadAnswer
-read_of (given r) = read.Element r.raw r.value (shown_of r.display)
-read_of (refused n) = read.Refused n
+abbrev read_of : Answer Reading → Result code.Reading CallRefusal
+read_of (given r) = Ok (record { raw = r.raw; physical = r.value; shown = shown_of r.display })
+read_of (refused n) = Err (refusal_by n)
 
-read_back : (r : ReadAnswer) → read_of (told_read r) ≡ r
-read_back (read.Element z p s) = ap (λ (v : Shown). read.Element z p v) (shown-back s)
-read_back (read.Refused n) = refl
+read_back : (r : Result code.Reading CallRefusal) → read_of (told_read r) ≡ r
+read_back (Ok r) = ap (λ (v : Shown). Ok (record { raw = r.raw; physical = r.physical; shown = v })) (shown-back r.shown)
+read_back (Err r) = ap (λ (z : CallRefusal). Err z) (refusal_back r)
 
-pub read_one : (t image : List ℕ) (l : Lent) (o p i : ℕ) (r s : ReadAnswer) → told_read r ≡ reading t image l o p i → told_read s ≡ reading t image l o p i → r ≡ s
+pub read_one : (t image : List ℕ) (l : Lent) (o p i : ℕ) (r s : Result code.Reading CallRefusal) → told_read r ≡ reading t image l o p i → told_read s ≡ reading t image l o p i → r ≡ s
 read_one t image l o p i r s x y = sym (read_back r) ∙ (ap read_of (x ∙ sym y) ∙ read_back s)

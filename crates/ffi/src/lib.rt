@@ -11,15 +11,13 @@ use list::make::make_list;
 use list::write::{write_physical, write_raw};
 use listings::whole::listing;
 use load::load;
-use look::read::{ReadAnswer, read};
+use look::read::read;
+use look::refusal::CallRefusal;
 use named::search;
 use numbers::told::{call_number, find_number, listing_number, load_number};
 use numbers::version::version_number;
 use readings::{has_room, put_reading};
 use tables::setting::Setting;
-
-// A lent buffer is too short.
-const TOO_SHORT: u32 = 20;
 
 // The version: MAJOR times 65536, MINOR times 256, and PATCH.
 #[unsafe(no_mangle)]
@@ -74,20 +72,16 @@ pub extern "C" fn obarsivel_read(
     ensures { read_call result out.new shown.new
         ≡ read_told (reading tables.now image.now (lent_of (length text.now) (length image.now) base) object part index) out.old shown.old }
 {
-    if has_room(out.len(), shown.len()) {
-        return match read(text, image, base, tables, object, part, index) {
-            ReadAnswer::Element {
-                raw,
-                physical,
-                shown: s,
-            } => {
-                put_reading(out, shown, raw, physical, s);
-                0
-            }
-            ReadAnswer::Refused { no } => no as u32,
-        };
+    if !has_room(out.len(), shown.len()) {
+        return CallRefusal::BadSize.number() as u32;
     }
-    TOO_SHORT
+    match read(text, image, base, tables, object, part, index) {
+        Ok(r) => {
+            put_reading(out, shown, r.raw, r.physical, r.shown);
+            0
+        }
+        Err(r) => r.number() as u32,
+    }
 }
 
 // Makes the list: 0 or the refusal's number.

@@ -8,7 +8,7 @@ use lib.Dec.{leb}
 use lib.IntN.{ℤ}
 use mir.Facts.{to_z-of_z}
 use Rattle.number.specs.Answer.{Answer, given}
-use Rattle.convert.specs.Told.{raw_refusal_number, told_raw}
+use Rattle.convert.specs.Told.{told_raw}
 use Rattle.convert.specs.declared.asked.RawRefusal.{RawRefusal}
 use Rattle.std.specs.Prelude.{Result, Ok, Err}
 use Rattle.tables.specs.Form.{tables_in, total}
@@ -18,8 +18,10 @@ use Rattle.look.specs.Element.{past_records}
 use Rattle.look.specs.Calls.{Lent, checked, judged_element, judged_request, Kept, kept, room, has_room, groups, remade, refreshed, After, afterwards, lent_by, making, Wanted, raw_number, request, wanted_raw, stored, written_to, writing}
 use Rattle.look.specs.Steps.{picked, checked_no, element_no}
 use Rattle.look.specs.Told.{after}
-use Rattle.look.specs.declared.call.CallAnswer.TheVariants as call
-use Rattle.look.proofs.CheckLaws.{checked_refused, checked-passed, group-is}
+use Rattle.look.specs.Refused.{refusal_number}
+use Rattle.look.specs.declared.refusal.CallRefusal.{CallRefusal}
+use Rattle.look.specs.declared.refusal.CallRefusal.TheVariants as no
+use Rattle.look.proofs.CheckLaws.{some_number, checked_refused, checked-passed, group-is}
 use Rattle.wanted.proofs.StandLaws.{standing-refused, standing-passed, stands-so}
 use Rattle.afresh.proofs.RefreshLaws.{refreshed-all}
 use Rattle.look.proofs.RoomLaws.{lines-hold}
@@ -37,14 +39,16 @@ module _ (t : List ℕ) (n base : ℕ) (k : Kept) (enough : Bool) (r lines : ℕ
   making-as : Bool → Answer (Unit {0}) → After
   making-as b a = afterwards (checked t (lent_by n base k) b a) k (λ _. remade t k)
 
-  pub make-refused : (r ≡ 0 → ⊥) → enough ≡ leb (total (tables_in t)) lines → lines ≡ room k → after (call.Refused r) k ≡ making t n base k
+  pub make-refused : (e : CallRefusal) → r ≡ refusal_number e → enough ≡ leb (total (tables_in t)) lines → lines ≡ room k → after (Err e) k ≡ making t n base k
   unfolding making making-as
-  make-refused h pe pl =
-      ap (λ (a : Answer (Unit {0})). afterwards a k (λ _. remade t k)) (checked_refused t (lent_by n base k) enough r q (given (tt {0})) h)
-      ∙ ap (λ (b : Bool). making-as b (given (tt {0}))) (has_room_lem t k enough lines pe pl)
+  make-refused e p pe pl =
+      let h : r ≡ 0 → ⊥ = λ z. some_number e (sym p ∙ z) in
+      rw (← p)
+      (ap (λ (a : Answer (Unit {0})). afterwards a k (λ _. remade t k)) (checked_refused t (lent_by n base k) enough r q (given (tt {0})) h)
+      ∙ ap (λ (b : Bool). making-as b (given (tt {0}))) (has_room_lem t k enough lines pe pl))
 
   pub make-done : (k' : Kept) → r ≡ 0 → enough ≡ leb (total (tables_in t)) lines → lines ≡ room k → k' ≡ refreshed (picked t 0 0 true) t k.image k
-      → after call.Done k' ≡ making t n base k
+      → after (Ok (tt {0})) k' ≡ making t n base k
   unfolding making making-as
   make-done k' h pe pl e =
       ap (λ (z : Kept). record { answer = given (tt {0}); left = z }) (e ∙ refreshed-all t k (picked t 0 0 true) (λ g i. refl))
@@ -68,11 +72,12 @@ module _ (t : List ℕ) (n base : ℕ) (k : Kept) (enough : Bool) (o p i r lines
   unfolding judged_request
   judged-is w e = ap (λ (b : Bool). judged_element t (lent_by n base k) b o p i (wanted_raw (tables_in t) (group_of o p) w)) e
 
-  pub write-refused : (w : Wanted) → (r ≡ 0 → ⊥) → enough ≡ leb (total (tables_in t)) lines → lines ≡ room k → after (call.Refused r) k ≡ writing t n base k (request o p i w)
+  pub write-refused : (w : Wanted) (e : CallRefusal) → r ≡ refusal_number e → enough ≡ leb (total (tables_in t)) lines → lines ≡ room k → after (Err e) k ≡ writing t n base k (request o p i w)
   unfolding writing writing-as
-  write-refused w h pe pl =
-      ap writing-as
-      (standing-refused t (lent_by n base k) enough o p i r q (wanted_raw (tables_in t) (group_of o p) w) h ∙ judged-is w (has_room_lem t k enough lines pe pl))
+  write-refused w e f pe pl =
+      rw (← f)
+      (ap writing-as
+      (standing-refused t (lent_by n base k) enough o p i r q (wanted_raw (tables_in t) (group_of o p) w) (λ z. some_number e (sym f ∙ z)) ∙ judged-is w (has_room_lem t k enough lines pe pl)))
 
   module _ (h : r ≡ 0) (pe : enough ≡ leb (total (tables_in t)) lines) (pl : lines ≡ room k) (g : ℕ) (f : g ≡ min (group_of o p) past_records) (a : After) (x : Answer ℤ) where
     pub write-is : (w : Wanted) → x ≡ wanted_raw (tables_in t) g w → a ≡ afterwards x k (written_to t g i k) → a ≡ writing t n base k (request o p i w)
@@ -103,11 +108,11 @@ pub store_is : (t image image' : List ℕ) (r : List ℤ) (s : List ℕ) (a b : 
 unfolding written_to refreshed
 store_is t image image' r s a b k' g i p w z y e h pp pw q = q ∙ rw (e, h, pp, pw)
 
-pub carried : (k k' : Kept) (f : ℤ → Kept) (x : Result ℤ RawRefusal) (z y : ℤ) → x ≡ Ok z → y ≡ z → k' ≡ f y → after call.Done k' ≡ afterwards (told_raw x) k f
+pub carried : (k k' : Kept) (f : ℤ → Kept) (x : Result ℤ RawRefusal) (z y : ℤ) → x ≡ Ok z → y ≡ z → k' ≡ f y → after (Ok (tt {0})) k' ≡ afterwards (told_raw x) k f
 carried k k' f x z y e h q = rw (q, h, e)
 
-pub not_carried : (k : Kept) (f : ℤ → Kept) (x : Result ℤ RawRefusal) (r : RawRefusal) (n : ℕ) → x ≡ Err r → n ≡ raw_refusal_number r → after (call.Refused n) k ≡ afterwards (told_raw x) k f
-not_carried k f x r n e h = rw (e, h)
+pub not_carried : (k : Kept) (f : ℤ → Kept) (x : Result ℤ RawRefusal) (r : RawRefusal) → x ≡ Err r → after (Err (no.Raw r)) k ≡ afterwards (told_raw x) k f
+not_carried k f x r e = rw e
 
 pub ruleset stores = (store_is, rules)
 

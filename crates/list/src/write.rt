@@ -9,8 +9,8 @@ ghost use Rattle.look.specs.Told.{after};
 
 use crate::store::store;
 use convert::asked::RawRefusal;
-use look::call::CallAnswer;
 use look::check::group_of;
+use look::refusal::CallRefusal;
 use look::room::{is_enough, room_of};
 use wanted::stand::judge;
 use wanted::wanted::{raw_asked, raw_wanted};
@@ -26,21 +26,15 @@ pub fn carry_out(
     g: u16,
     i: u32,
     answer: Result<i64, RawRefusal>,
-) -> CallAnswer
+) -> Result<(), CallRefusal>
     requires { sum_below (groups t.now) (elements (tables_in t.now)) ≤ room (kept image.old raw.old state.old first.old second.old) }
     ensures { after result (kept image.new raw.new state.new first.new second.new)
         ≡ afterwards (told_raw answer) (kept image.old raw.old state.old first.old second.old)
         (written_to t.now g i (kept image.old raw.old state.old first.old second.old)) }
 {
-    match answer {
-        Ok(z) => {
-            store(t, image, raw, state, first, second, g, i, z);
-            CallAnswer::Done
-        }
-        Err(refusal) => CallAnswer::Refused {
-            no: refusal.number(),
-        },
-    }
+    let z = answer?;
+    store(t, image, raw, state, first, second, g, i, z);
+    Ok(())
 }
 
 // Writes a raw number to an element, named by object number, part and index.
@@ -57,17 +51,14 @@ pub fn write_raw(
     part: u8,
     index: u32,
     value: i64,
-) -> CallAnswer
+) -> Result<(), CallRefusal>
     ensures { after result (kept image.new raw.new state.new first.new second.new)
         ≡ writing t.now (length x.now) base (kept image.old raw.old state.old first.old second.old)
         (request object part index (raw_number value)) }
 {
     let lines = room_of(raw.len(), state.len(), first.len(), second.len());
     let enough = is_enough(t, lines);
-    let no = judge(x.len(), image.len(), base, t, enough, object, part, index);
-    if no != 0 {
-        return CallAnswer::Refused { no };
-    }
+    judge(x.len(), image.len(), base, t, enough, object, part, index)?;
     let g = group_of(object, part);
     let answer = raw_wanted(t, g, value);
     carry_out(t, image, raw, state, first, second, g, index, answer)
@@ -87,17 +78,14 @@ pub fn write_physical(
     part: u8,
     index: u32,
     asked: &[u8],
-) -> CallAnswer
+) -> Result<(), CallRefusal>
     ensures { after result (kept image.new raw.new state.new first.new second.new)
         ≡ writing t.now (length x.now) base (kept image.old raw.old state.old first.old second.old)
         (request object part index (physical_text asked.now)) }
 {
     let lines = room_of(raw.len(), state.len(), first.len(), second.len());
     let enough = is_enough(t, lines);
-    let no = judge(x.len(), image.len(), base, t, enough, object, part, index);
-    if no != 0 {
-        return CallAnswer::Refused { no };
-    }
+    judge(x.len(), image.len(), base, t, enough, object, part, index)?;
     let g = group_of(object, part);
     let answer = raw_asked(t, g, asked);
     carry_out(t, image, raw, state, first, second, g, index, answer)

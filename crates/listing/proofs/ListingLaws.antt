@@ -1,4 +1,5 @@
 -- The listing, by the loop and the branches that the code takes.
+use Rattle.std.specs.Prelude.{Result, Ok, Err}
 use Prim.Native.Nat.{ℕ, zero, suc, ◌+◌, ◌-◌, ◌*◌, ◌/◌, ◌%◌, ◌^◌, ◌≤◌, ◌<◌, min}
 use mathlib.Core.Path.{◌≡◌, refl, sym, ◌∙◌}
 use mathlib.Core.List.{List, [], ◌++◌, append_assoc, append-nil}
@@ -30,14 +31,15 @@ use Rattle.tables.proofs.GroupLaws.{elements-most}
 use Rattle.tables.proofs.LoopLaws.{sum-on, sum-small}
 use Rattle.tables.proofs.Reading.{total-is, total-most}
 use Rattle.look.specs.Element.{past_records}
-use Rattle.look.proofs.CheckLaws.{checked_refused, checked-tests, checked-passed, group-is}
+use Rattle.look.proofs.CheckLaws.{some_number, checked_refused, checked-tests, checked-passed, group-is}
 use Rattle.look.specs.Calls.{is_element, Kept, kept, lent_of, lent_by, unless, checked, has_room}
 use Rattle.look.specs.Steps.{checked_no}
 use Rattle.print.specs.Print.{slice}
 use Rattle.print.specs.Put.{put, Put}
 use Rattle.print.proofs.PutLaws.{put-none, put_then, length-put}
-use Rattle.listing.specs.declared.listing.ListingAnswer.{ListingAnswer}
-use Rattle.listing.specs.declared.listing.ListingAnswer.TheVariants.{Written, Refused}
+use Rattle.look.specs.Refused.{refusal_number}
+use Rattle.look.specs.declared.refusal.CallRefusal.{CallRefusal}
+use Rattle.look.specs.declared.refusal.CallRefusal.TheVariants as no
 use Rattle.listing.specs.Print.{physical, line, header}
 use Rattle.look.specs.Lines.{laid_over}
 use Rattle.listing.specs.Listing.{Columns, columns, columns_of, kept_no, printing, printed_line, printed_part, printed_below, printed, listed_by, listed_of, if_fits, listing}
@@ -170,13 +172,13 @@ put_front bytes out left past p h = let e = p.end in p.laid ∙ sets-eq bytes ou
 
 -- bytes that do not fit, and bytes that do: they were measured in another buffer
 module _ (bytes out o w : List ℕ) (need : ℕ) where
-  pub fits-short : Put 0 bytes o need w → length out < need → listed_of (Refused 20) out ≡ listed_by (if_fits bytes out) out
+  pub fits-short : Put 0 bytes o need w → length out < need → listed_of (Err no.BadSize) out ≡ listed_by (if_fits bytes out) out
   fits-short p h =
       let q = p.end in
       let l : length out < length bytes = omega arith in
       rw (lt-leb (length bytes) (length out) l)
 
-  pub fits-done : (r : ℕ) (left : List ℕ) → Put 0 bytes o need w → need ≤ length out → Put 0 bytes out r left → listed_of (Written r) left ≡ listed_by (if_fits bytes out) out
+  pub fits-done : (r : ℕ) (left : List ℕ) → Put 0 bytes o need w → need ≤ length out → Put 0 bytes out r left → listed_of (Ok r) left ≡ listed_by (if_fits bytes out) out
   fits-done r left p h q =
       let i = p.end in
       let j = q.end in
@@ -225,31 +227,31 @@ module _ (x t : List ℕ) (base : ℕ) (k : Kept) (n : ℕ) (e : n ≡ kept_no (
         omega arith
 
   module _ (out : List ℕ) where
-    pub listing-refused : (n ≡ 0 → ⊥) → listed_of (Refused n) out ≡ listing x t base k out
+    pub listing-refused : (r : CallRefusal) → n ≡ refusal_number r → listed_of (Err r) out ≡ listing x t base k out
     unfolding listing
-    listing-refused h = rw (← kept-refused (if_fits (printed x t (columns_of k)) out) h)
+    listing-refused r q = rw (← q, ← kept-refused (if_fits (printed x t (columns_of k)) out) (λ z. some_number r (sym q ∙ z)))
 
-    pub listing-short : (need : ℕ) (o left : List ℕ) → n ≡ 0 → Put 0 (printed x t (columns_of k)) o need left → length out < need → listed_of (Refused 20) out ≡ listing x t base k out
+    pub listing-short : (need : ℕ) (o left : List ℕ) → n ≡ 0 → Put 0 (printed x t (columns_of k)) o need left → length out < need → listed_of (Err no.BadSize) out ≡ listing x t base k out
     unfolding listing
     listing-short need o left z p h = rw (kept-passed z (if_fits (printed x t (columns_of k)) out)) (fits-short (printed x t (columns_of k)) out o left need p h)
 
     pub listing-done : (need r : ℕ) (o w left : List ℕ) → n ≡ 0 → Put 0 (printed x t (columns_of k)) o need w → need ≤ length out → Put 0 (printed x t (columns_of k)) out r left
-        → listed_of (Written r) left ≡ listing x t base k out
+        → listed_of (Ok r) left ≡ listing x t base k out
     unfolding listing
     listing-done need r o w left z p h q = rw (kept-passed z (if_fits (printed x t (columns_of k)) out)) (fits-done (printed x t (columns_of k)) out o w need r left p h q)
 
     -- one element's line
     module _ (o p i : ℕ) where
-      pub line_refused : (n ≡ 0 → ⊥) → listed_of (Refused n) out ≡ printing x t base k o p i out
+      pub line_refused : (r : CallRefusal) → n ≡ refusal_number r → listed_of (Err r) out ≡ printing x t base k o p i out
       unfolding printing
-      line_refused h = rw (← kept-refused (unless (is_element (tables_in t) o p i) 14 (if_fits (printed_line x t (columns_of k) (group_of o p) i (line_of (tables_in t) (group_of o p) i)) out)) h)
+      line_refused r w = rw (← w, ← kept-refused (unless (is_element (tables_in t) o p i) 14 (if_fits (printed_line x t (columns_of k) (group_of o p) i (line_of (tables_in t) (group_of o p) i)) out)) (λ z. some_number r (sym w ∙ z)))
 
       module _ (b : Bool) (q : b ≡ is_element (tables_in t) o p i) where
-        pub line-none : n ≡ 0 → b ≡ false → listed_of (Refused 14) out ≡ printing x t base k o p i out
+        pub line-none : n ≡ 0 → b ≡ false → listed_of (Err no.NoElement) out ≡ printing x t base k o p i out
         unfolding printing
         line-none z h = rw (kept-passed z (unless (is_element (tables_in t) o p i) 14 (if_fits (printed_line x t (columns_of k) (group_of o p) i (line_of (tables_in t) (group_of o p) i)) out)), ← q, h)
 
-        pub line-is : (g s j : ℕ) (r : ListingAnswer) (left : List ℕ) → n ≡ 0 → b ≡ true → g ≡ min (group_of o p) past_records → s ≡ sum_below g (elements (tables_in t)) → j ≡ s + i
+        pub line-is : (g s j : ℕ) (r : Result ℕ CallRefusal) (left : List ℕ) → n ≡ 0 → b ≡ true → g ≡ min (group_of o p) past_records → s ≡ sum_below g (elements (tables_in t)) → j ≡ s + i
             → listed_of r left ≡ listed_by (if_fits (printed_line x t (columns_of k) g i j) out) out → listed_of r left ≡ printing x t base k o p i out
         unfolding printing
         line-is g s j r left z h m u v w =

@@ -1,5 +1,5 @@
 -- "A whole listing": the header, and a line for each element of the kept list, in the list's order.
-use Rattle.std.specs.Prelude.{ℕ, zero, suc, ◌+◌, ◌/◌, ◌%◌, List, [], ◌++◌, cond, leb, ℤ, pos, length, get_or}
+use Rattle.std.specs.Prelude.{ℕ, zero, suc, ◌+◌, ◌/◌, ◌%◌, List, [], ◌++◌, cond, leb, ℤ, pos, length, get_or, Result, Ok, Err}
 use Rattle.number.specs.Answer.{Answer, given, refused}
 use Rattle.tables.specs.Form.{object_section, group_section, tables_in, name_cell, name_past_cell}
 use Rattle.number.specs.Below.{sum_below}
@@ -8,8 +8,8 @@ use Rattle.look.specs.Calls.{Kept, checked, has_room, lent_by, unless, is_elemen
 use Rattle.look.specs.Lines.{laid_over}
 use Rattle.look.specs.Steps.{checked_no}
 use Rattle.print.specs.Print.{slice}
-use Rattle.listing.specs.declared.listing.ListingAnswer.{ListingAnswer}
-use Rattle.listing.specs.declared.listing.ListingAnswer.TheVariants.{Written, Refused}
+use Rattle.look.specs.Refused.{refusal_number}
+use Rattle.look.specs.declared.refusal.CallRefusal.{CallRefusal}
 use Rattle.listing.specs.Print.{physical, line, header}
 
 -- the list's four columns
@@ -74,6 +74,6 @@ printing x t base k o p i out =
     listed_by (checked t (lent_by (length x) base k) (has_room t k) (unless (is_element (tables_in t) o p i) 14 (if_fits (printed_line x t (columns_of k) (group_of o p) i (line_of (tables_in t) (group_of o p) i)) out))) out
 
 -- what the code's answer says, with what the buffer holds
-abbrev pub listed_of : ListingAnswer → List ℕ → Listed
-listed_of (Written n) out = record { answer = given n; out = out }
-listed_of (Refused n) out = record { answer = refused n; out = out }
+abbrev pub listed_of : Result ℕ CallRefusal → List ℕ → Listed
+listed_of (Ok n) out = record { answer = given n; out = out }
+listed_of (Err r) out = record { answer = refused (refusal_number r); out = out }

@@ -8,20 +8,6 @@ use cell::size::size;
 use print::figures::{MINUS, put_byte, put_figures, put_signed};
 use print::slice::put_slice;
 
-// The bytes between the fields, at a line's end, and in a fraction.
-const TAB: u8 = 9;
-
-const LF: u8 = 10;
-
-const SLASH: u8 = 47;
-
-// The letters of the parts.
-const LETTER_X: u8 = 120;
-
-const LETTER_Y: u8 = 121;
-
-const LETTER_V: u8 = 118;
-
 // What a line's state says.
 const NUMBER: u8 = 1;
 
@@ -33,7 +19,7 @@ fn put_fraction(out: &mut [u8], at: usize, n: i64, d: i64) -> usize
     ensures { Put at (signed n ++ (47 ∷ signed d)) out.old result out.new × (result ≤ at + 43) }
 {
     let e = put_signed(out, at, n);
-    let f = put_byte(out, e, SLASH);
+    let f = put_byte(out, e, b'/');
     put_signed(out, f, d)
 }
 
@@ -42,28 +28,22 @@ fn put_physical(out: &mut [u8], at: usize, x: &[u8], state: u8, first: i64, seco
     requires { (at < 2 ^ 57) × (length x.now ≤ 2 ^ 24) }
     ensures { Put at (physical x.now state first second) out.old result out.new × (result ≤ at + (2 ^ 24 + 43)) }
 {
-    if state == NUMBER {
-        return put_fraction(out, at, first, second);
+    match state {
+        NUMBER => put_fraction(out, at, first, second),
+        TEXT => put_slice(out, at, x, size(first) as usize, size(second) as usize),
+        _ => put_byte(out, at, MINUS),
     }
-    if state == TEXT {
-        let a = size(first) as usize;
-        let e = size(second) as usize;
-        return put_slice(out, at, x, a, e);
-    }
-    put_byte(out, at, MINUS)
 }
 
 // The letter of a part.
 fn letter_of(part: u8) -> u8
     ensures { result ≡ letter part }
 {
-    if part == 0 {
-        return LETTER_X;
+    match part {
+        0 => b'x',
+        1 => b'y',
+        _ => b'v',
     }
-    if part == 1 {
-        return LETTER_Y;
-    }
-    LETTER_V
 }
 
 // Puts the part's letter and the index, each after a tab.
@@ -71,9 +51,9 @@ fn put_index(out: &mut [u8], at: usize, part: u8, index: u32) -> usize
     requires { at < 2 ^ 57 }
     ensures { Put at (9 ∷ letter part ∷ 9 ∷ figures index) out.old result out.new × (result ≤ at + 23) }
 {
-    let b = put_byte(out, at, TAB);
+    let b = put_byte(out, at, b'\t');
     let c = put_byte(out, b, letter_of(part));
-    let d = put_byte(out, c, TAB);
+    let d = put_byte(out, c, b'\t');
     put_figures(out, d, index as u64)
 }
 
@@ -90,11 +70,11 @@ fn put_values(
     requires { (at < 2 ^ 56) × (length x.now ≤ 2 ^ 24) }
     ensures { Put at (9 ∷ signed raw ++ (9 ∷ physical x.now state first second ++ (10 ∷ []))) out.old result out.new × (result ≤ at + (2 ^ 24 + 67)) }
 {
-    let b = put_byte(out, at, TAB);
+    let b = put_byte(out, at, b'\t');
     let c = put_signed(out, b, raw);
-    let d = put_byte(out, c, TAB);
+    let d = put_byte(out, c, b'\t');
     let e = put_physical(out, d, x, state, first, second);
-    put_byte(out, e, LF)
+    put_byte(out, e, b'\n')
 }
 
 // Puts a line: a name, a part and an index, a raw number and a value.

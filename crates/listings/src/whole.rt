@@ -10,8 +10,7 @@ ghost use Rattle.listing.specs.Print.{header};
 ghost use Rattle.listing.specs.Listing.{columns, printed_below, printed, listed_of, listing};
 
 use crate::element::{check_list, put_element};
-use listing::listing::ListingAnswer;
-use look::check::BAD_SIZE;
+use look::refusal::CallRefusal;
 use print::slice::put_slice;
 use tables::form::{GROUP, count_of};
 use tables::group::elements_of;
@@ -86,18 +85,15 @@ pub fn listing(
     first: &[i64],
     second: &[i64],
     out: &mut [u8],
-) -> ListingAnswer
+) -> Result<usize, CallRefusal>
     ensures { listed_of result out.new
         ≡ listing x.now t.now base (kept image.now raw.now state.now first.now second.now) out.old }
 {
-    let no = check_list(x, image, base, t, raw, state, first, second);
-    if no != 0 {
-        return ListingAnswer::Refused { no };
-    }
+    check_list(x, image, base, t, raw, state, first, second)?;
     let mut nothing = [0u8; 1];
     let need = put_listing(&mut nothing, x, t, raw, state, first, second);
     if out.len() < need {
-        return ListingAnswer::Refused { no: BAD_SIZE };
+        return Err(CallRefusal::BadSize);
     }
-    ListingAnswer::Written(put_listing(out, x, t, raw, state, first, second))
+    Ok(put_listing(out, x, t, raw, state, first, second))
 }

@@ -2,5 +2,6 @@
 pub mod Lines
 pub mod Element
 pub mod Calls
+pub mod Refused
 pub mod Told
 pub mod Steps

@@ -9,10 +9,7 @@ use tables::group::{bytes_of, place_of};
 fn is_below(a: u64, from: u64, many: u64) -> bool
     ensures { result ≡ ltb a (from + many) }
 {
-    if a < from {
-        return true;
-    }
-    a - from < many
+    a < from || a - from < many
 }
 
 // Whether so many bytes from a place on, and others from another, have one in common.

@@ -15,6 +15,7 @@ use tables::group::{Storage, place_by, storage_of};
 use verbal::text::text_of;
 
 // A line of the list: the raw number, the state (0 none, 1 number, 2 text), and its two numbers or places.
+// The state is a number, as the lent columns and the C interface hold it.
 #[derive(Clone, Copy)]
 pub struct Line {
     pub raw: i64,
@@ -33,32 +34,21 @@ const PAST_RECORDS: u64 = 65535;
 pub fn record_of(n: u64) -> u16
     ensures { result ≡ min n past_records }
 {
-    if n < PAST_RECORDS {
-        n as u16
-    } else {
-        PAST_RECORDS as u16
-    }
+    n.min(PAST_RECORDS) as u16
 }
 
 // The record whose number and one more is n.
 pub fn record_before(n: u64) -> u16
     ensures { result ≡ min (n - 1) past_records }
 {
-    if n < 1 {
-        return 0;
-    }
-    record_of(n - 1)
+    record_of(n.saturating_sub(1))
 }
 
 // A number of entries, at most those of all tables.
 fn entries(n: u64) -> u16
     ensures { result ≡ min n most_entries }
 {
-    if n < MOST_ENTRIES {
-        n as u16
-    } else {
-        MOST_ENTRIES as u16
-    }
+    n.min(MOST_ENTRIES) as u16
 }
 
 // The text that a verbal table gives.

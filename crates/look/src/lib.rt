@@ -2,11 +2,10 @@
 #![tactic(auto)]
 
 pub mod bytes;
-pub mod call;
 pub mod check;
 pub mod element;
 pub mod meaning;
 pub mod method;
 pub mod read;
+pub mod refusal;
 pub mod room;
-pub mod search;

@@ -4,18 +4,11 @@ ghost use Rattle.tables.specs.Form.{total, tables_in};
 
 use tables::head::total_of;
 
-// The smaller of two lengths.
-fn smaller(a: usize, b: usize) -> usize
-    ensures { result ≡ min a b }
-{
-    if a < b { a } else { b }
-}
-
 // How many lines the shortest of four columns has.
 pub fn room_of(a: usize, b: usize, c: usize, d: usize) -> usize
     ensures { result ≡ min (min a b) (min c d) }
 {
-    smaller(smaller(a, b), smaller(c, d))
+    a.min(b).min(c.min(d))
 }
 
 // Whether so many lines hold every element.

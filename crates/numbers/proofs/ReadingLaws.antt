@@ -1,4 +1,5 @@
 -- A reading in the lent slices.
+use Rattle.std.specs.Prelude.{Result, Ok, Err}
 use mathlib.Core.Path.{◌≡◌, sym, ap, ◌∙◌}
 use mathlib.Core.Bool.{Bool, true, false, ◌&&◌}
 use mathlib.Core.List.{List, [], ◌∷◌}
@@ -18,9 +19,10 @@ use Rattle.convert.specs.declared.fraction.Physical.{Physical}
 use Rattle.convert.specs.declared.fraction.Shown.{Shown}
 use Rattle.convert.specs.declared.fraction.Shown.TheVariants as shown
 use Rattle.look.specs.Calls.{Reading}
-use Rattle.look.specs.Told.{told_read}
-use Rattle.look.specs.declared.read.ReadAnswer.{ReadAnswer}
-use Rattle.look.specs.declared.read.ReadAnswer.TheVariants as read
+use Rattle.look.specs.Told.{told_reading, told_read}
+use Rattle.look.specs.Refused.{refusal_number}
+use Rattle.look.specs.declared.refusal.CallRefusal.{CallRefusal}
+use Rattle.look.specs.declared.read.Reading as code
 use Rattle.convert.proofs.Wholes.{left-true, right-true}
 use Rattle.afresh.proofs.RefreshLaws.{put-past}
 use Rattle.look.specs.Lines.{laid_over}
@@ -69,21 +71,21 @@ module _ (a : Answer Reading) (l : List ℤ) (m : List Float) (b : Bool) (w : b 
   unfolding read_told
   read_short h = rw (← w, h)
 
-  module _ (h : b ≡ true) (x : ReadAnswer) (e : told_read x ≡ a) where
-    pub read-refused : (n : ℕ) → x ≡ read.Refused n → read_call n l m ≡ read_told a l m
+  module _ (h : b ≡ true) (x : Result code.Reading CallRefusal) (e : told_read x ≡ a) where
+    pub read-refused : (r : CallRefusal) (n : ℕ) → x ≡ Err r → n ≡ refusal_number r → read_call n l m ≡ read_told a l m
     unfolding read_told
-    read-refused n q =
-        let u : refused n ≡ a = ap told_read (sym q) ∙ e in
-        rw (← w, h, ← u)
+    read-refused r n q k =
+        let u : refused (refusal_number r) ≡ a = ap told_read (sym q) ∙ e in
+        rw (← w, h, ← u, k)
 
-    pub read-given : (l' : List ℤ) (m' : List Float) (raw y : ℤ) (p : Physical) (s : Shown) → x ≡ read.Element raw p s → y ≡ raw
-        → (l' ≡ sets l 0 (five_of y p (told_shown s))) × (m' ≡ sets m 0 (number_shown (told_shown s) ∷ [])) → read_call 0 l' m' ≡ read_told a l m
+    pub read-given : (l' : List ℤ) (m' : List Float) (b : code.Reading) (y : ℤ) → x ≡ Ok b → y ≡ b.raw
+        → (l' ≡ sets l 0 (five_of y b.physical (told_shown b.shown))) × (m' ≡ sets m 0 (number_shown (told_shown b.shown) ∷ [])) → read_call 0 l' m' ≡ read_told a l m
     unfolding read_told
-    read-given l' m' raw y p s q r z =
-        let u : given (record { raw = raw; value = p; display = told_shown s }) ≡ a = ap told_read (sym q) ∙ e in
+    read-given l' m' b y q r z =
+        let u : given (told_reading b) ≡ a = ap told_read (sym q) ∙ e in
         let k : (5 ≤ length l) × (1 ≤ length m) = both_hold l m (sym w ∙ h) in
-        let v : l' ≡ laid_over (five_of raw p (told_shown s)) l = z.0 ∙ rw r (front-put (five_of raw p (told_shown s)) l k.0) in
-        let o : m' ≡ laid_over (number_shown (told_shown s) ∷ []) m = z.1 ∙ front-put (number_shown (told_shown s) ∷ []) m k.1 in
+        let v : l' ≡ laid_over (five_of b.raw b.physical (told_shown b.shown)) l = z.0 ∙ rw r (front-put (five_of b.raw b.physical (told_shown b.shown)) l k.0) in
+        let o : m' ≡ laid_over (number_shown (told_shown b.shown) ∷ []) m = z.1 ∙ front-put (number_shown (told_shown b.shown) ∷ []) m k.1 in
         rw (← w, h, ← u, v, o)
 
 pub ruleset reads = (read_short, read-refused, read-given, rules)

@@ -10,8 +10,8 @@ use Rattle.load.specs.Load.{Loaded}
 use Rattle.look.specs.Calls.{Reading, Kept, After, unless}
 use Rattle.look.specs.Lines.{laid_over}
 use Rattle.listing.specs.Listing.{Listed}
-use Rattle.listing.specs.declared.listing.ListingAnswer.{ListingAnswer}
-use Rattle.listing.specs.declared.listing.ListingAnswer.TheVariants as listing
+use Rattle.look.specs.Refused.{refusal_number}
+use Rattle.look.specs.declared.refusal.CallRefusal.{CallRefusal}
 
 -- ---- obarsivel_version
 
@@ -111,10 +111,10 @@ list_told a = list_call (call_number a.answer) a.left
 
 -- ---- obarsivel_listing
 
--- what `ListingAnswer` answers
-abbrev pub told_listing : ListingAnswer → Answer ℕ
-told_listing (listing.Written n) = given n
-told_listing (listing.Refused n) = refused n
+-- what a listing answers
+abbrev pub told_listing : Result ℕ CallRefusal → Answer ℕ
+told_listing (Ok n) = given n
+told_listing (Err r) = refused (refusal_number r)
 
 -- "Answers how many bytes it wrote, or -20 .., -22"
 abbrev pub listing_number : Answer ℕ → ℤ

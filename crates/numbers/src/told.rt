@@ -1,11 +1,10 @@
 // The library's answers as numbers.
 ghost use Rattle.std.specs.Prelude.{◌≡◌, pos, neg_ℤ};
+ghost use Rattle.look.specs.Refused.{refusal_number};
 ghost use Rattle.look.specs.Told.{told_search, told_call};
 ghost use Rattle.numbers.specs.Numbers.{told_load, load_number, find_number, call_number, told_listing, held_count, listing_number};
 
-use listing::listing::ListingAnswer;
-use look::call::CallAnswer;
-use look::search::SearchAnswer;
+use look::refusal::CallRefusal;
 use text::cursor::Refusal;
 
 // A refusal's number and place in one number: the place times 64, and the number.
@@ -28,40 +27,36 @@ pub fn load_number(a: Result<(), Refusal>) -> u64
 }
 
 // A refusal's number below zero.
-fn minus(no: u8) -> i64
-    ensures { result ≡ neg_ℤ (pos no) }
+fn minus(r: CallRefusal) -> i64
+    ensures { result ≡ neg_ℤ (pos (refusal_number r)) }
 {
-    let n = no as i64;
-    0 - n
+    -(r.number() as i64)
 }
 
 // What a search answers: the object's number, −1 where none bears the name, the refusal's number below zero.
-pub fn find_number(a: SearchAnswer) -> i64
+pub fn find_number(a: Result<Option<u16>, CallRefusal>) -> i64
     ensures { result ≡ find_number (told_search a) }
 {
     match a {
-        SearchAnswer::At(i) => i as i64,
-        SearchAnswer::Nothing => -1,
-        SearchAnswer::Refused { no } => minus(no),
+        Ok(Some(i)) => i as i64,
+        Ok(None) => -1,
+        Err(r) => minus(r),
     }
 }
 
 // What a call on the list answers: 0 where it is done, else the refusal's number.
-pub fn call_number(a: CallAnswer) -> u32
+pub fn call_number(a: Result<(), CallRefusal>) -> u32
     ensures { result ≡ call_number (told_call a) }
 {
-    match a {
-        CallAnswer::Done => 0,
-        CallAnswer::Refused { no } => no as u32,
-    }
+    a.err().map_or(0, |r| r.number() as u32)
 }
 
 // What a listing answers: how many bytes, or the refusal's number below zero.
-pub fn listing_number(a: ListingAnswer) -> i64
+pub fn listing_number(a: Result<usize, CallRefusal>) -> i64
     ensures { result ≡ listing_number (held_count (told_listing a)) }
 {
     match a {
-        ListingAnswer::Written(n) => ((n as u64) % BYTES) as i64,
-        ListingAnswer::Refused { no } => minus(no),
+        Ok(n) => ((n as u64) % BYTES) as i64,
+        Err(r) => minus(r),
     }
 }

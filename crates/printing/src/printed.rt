@@ -3,7 +3,6 @@ use console::ending::Ending;
 use console::kept::{Columns, Element, Loaded};
 use console::message::refused;
 use console::sizes::LINE_ROOM;
-use listing::listing::ListingAnswer;
 use listings::element::line;
 use look::bytes::touches;
 use tables::form::{GROUP, PARTS, count_of};
@@ -32,8 +31,8 @@ pub fn print_line(
         &kept.second,
         &mut out,
     ) {
-        ListingAnswer::Written(n) => Ok(rt.write_all(out.get(..n).unwrap_or(&out))?),
-        ListingAnswer::Refused { no } => Err(refused(rt, no)),
+        Ok(n) => Ok(rt.write_all(out.get(..n).unwrap_or(&out))?),
+        Err(r) => Err(refused(rt, r.number())),
     }
 }
 

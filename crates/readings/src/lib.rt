@@ -6,6 +6,7 @@ ghost use Rattle.std.proofs.lemmas.List.Edits.{sets};
 ghost use Rattle.convert.specs.Told.{told_shown};
 ghost use Rattle.numbers.specs.Numbers.{kind_shown, number_shown, five_of};
 
+use afresh::refresh::put;
 use convert::fraction::{Physical, Shown};
 
 // How many numbers a reading has: raw, state, the two numbers, what is shown.
@@ -40,24 +41,6 @@ fn shown_number(s: Shown) -> f64
     }
 }
 
-// Stores a number in a lent slice; nothing past its end.
-fn put(out: &mut [i64], i: usize, n: i64)
-    ensures { out.new ≡ set out.old i n }
-{
-    if i < out.len() {
-        out[i] = n;
-    }
-}
-
-// Stores a shown number in a lent slice, where it has a cell.
-fn put_shown(shown: &mut [f64], x: f64)
-    ensures { shown.new ≡ set shown.old 0 x }
-{
-    if 0 < shown.len() {
-        shown[0] = x;
-    }
-}
-
 // Puts a reading's five numbers and the shown one into the lent slices.
 pub fn put_reading(out: &mut [i64], shown: &mut [f64], raw: i64, p: Physical, s: Shown)
     ensures { (out.new ≡ sets out.old 0 (five_of raw p (told_shown s)))
@@ -68,5 +51,5 @@ pub fn put_reading(out: &mut [i64], shown: &mut [f64], raw: i64, p: Physical, s:
     put(out, 2, p.first);
     put(out, 3, p.second);
     put(out, 4, shown_kind(s));
-    put_shown(shown, shown_number(s));
+    put(shown, 0, shown_number(s));
 }

@@ -3,7 +3,6 @@ use console::ending::Stop;
 use console::kept::{Columns, Loaded};
 use console::message::refused;
 use list::make::make_list;
-use look::call::CallAnswer;
 
 // Makes the list of an image.
 pub fn kept_list(rt: &impl Print, d: Loaded<'_>, image: &[u8]) -> Result<Columns, Stop> {
@@ -18,7 +17,7 @@ pub fn kept_list(rt: &impl Print, d: Loaded<'_>, image: &[u8]) -> Result<Columns
         &mut kept.first,
         &mut kept.second,
     ) {
-        CallAnswer::Done => Ok(kept),
-        CallAnswer::Refused { no } => Err(refused(rt, no)),
+        Ok(()) => Ok(kept),
+        Err(r) => Err(refused(rt, r.number())),
     }
 }

@@ -5,8 +5,7 @@ use console::ending::{Errors, Stop};
 use console::kept::{Columns, Element, Loaded};
 use console::message::{error_about, refused};
 use list::write::{write_physical, write_raw};
-use look::call::CallAnswer;
-use look::search::SearchAnswer;
+use look::refusal::CallRefusal;
 use named::search;
 use std::fmt;
 
@@ -62,13 +61,13 @@ pub fn element_named<'a>(
 ) -> Result<Element, Wrong<'a>> {
     let i = index_of(index).ok_or(Wrong::Index(index))?;
     match search(d.x, image, d.base, d.t, name) {
-        SearchAnswer::At(object) => Ok(Element {
+        Ok(Some(object)) => Ok(Element {
             object: object as u32,
             part: part_of(part),
             index: i,
         }),
-        SearchAnswer::Nothing => Err(Wrong::Name(name)),
-        SearchAnswer::Refused { no } => Err(Wrong::Refused(no)),
+        Ok(None) => Err(Wrong::Name(name)),
+        Err(r) => Err(Wrong::Refused(r.number())),
     }
 }
 
@@ -97,7 +96,7 @@ pub fn write_one(
     element: Element,
     way: Way,
     value: &[u8],
-) -> CallAnswer {
+) -> Result<(), CallRefusal> {
     let Element {
         object,
         part,

@@ -20,9 +20,6 @@ const FIRST: u16 = 2;
 
 const PAST: u16 = 3;
 
-// No text place is this large.
-const PLACE_END: u64 = 9223372036854775808;
-
 // Whether a sign and a size are those of a number.
 fn is_number(sign: u64, m: u64, raw: i64) -> bool
     ensures { result ≡ eq_z (signed_of (not (eqb sign 0)) m) raw }
@@ -45,10 +42,7 @@ fn has_number(t: &[u64], c: Section, e: u16, raw: i64) -> bool
 fn place_in(n: u64) -> i64
     ensures { result ≡ pos (place_in n) }
 {
-    if n < PLACE_END {
-        return n as i64;
-    }
-    0
+    i64::try_from(n).unwrap_or(0)
 }
 
 // The text between two places.
@@ -73,20 +67,14 @@ fn entry_text(t: &[u64], c: Section, e: u16) -> Physical
 fn default_text(first: u64, past: u64) -> Physical
     ensures { result ≡ held (default_of (place_in first) (place_in past)) }
 {
-    let a = place_in(first);
-    let b = place_in(past);
-    if (a == 0) & (b == 0) {
+    if (place_in(first) == 0) & (place_in(past) == 0) {
         return Physical {
             state: NONE,
             first: 0,
             second: 0,
         };
     }
-    Physical {
-        state: TEXT,
-        first: a,
-        second: b,
-    }
+    text_between(first, past)
 }
 
 // The text of a raw number in the table of count entries from entry from on, in section c, with the default's two places.
@@ -102,14 +90,10 @@ pub fn text_of(
     requires { from + count < 65536 }
     ensures { result ≡ held (verbal_of (slot_in t.now c) from count first past raw) }
 {
-    let mut e = from;
-    let mut left = count;
-    while 0 < left {
+    for e in from..from + count {
         if has_number(t, c, e, raw) {
             return entry_text(t, c, e);
         }
-        e += 1;
-        left -= 1;
     }
     default_text(first, past)
 }

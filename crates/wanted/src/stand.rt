@@ -1,18 +1,15 @@
 // What a write judges of the element alone: 20, 22, 14, 21, 19.
 ghost use Rattle.std.specs.Prelude.{◌≡◌, ◌+◌};
 ghost use Rattle.look.specs.Calls.{lent_of, is_counted, on_count};
+ghost use Rattle.look.specs.Refused.{number_of};
 ghost use Rattle.look.specs.Steps.{writable_no, element_no};
 
 use cell::kind::shape_of;
 use look::bytes::share;
-use look::check::{NO_ELEMENT, check, group_of, is_element};
+use look::check::{check, group_of, is_element};
+use look::refusal::CallRefusal;
 use tables::form::{GROUP, count_of};
 use tables::group::{bytes_of, counter_of, counter_place_of, is_forbidden, place_of};
-
-// Refusals: writing forbidden, the element shares a byte with a stored count.
-pub const FORBIDDEN: u8 = 21;
-
-pub const ON_COUNT: u8 = 19;
 
 // Whether so many bytes from lo on share one with a group's stored count.
 fn is_counted(t: &[u64], lo: u64, many: u64, g: u16) -> bool
@@ -29,31 +26,28 @@ fn is_counted(t: &[u64], lo: u64, many: u64, g: u16) -> bool
 pub fn is_on_count(t: &[u64], lo: u64, many: u64) -> bool
     ensures { result ≡ on_count t.now lo (lo + many) }
 {
-    let n = count_of(t, GROUP);
-    let mut g: u16 = 0;
-    while g < n {
+    for g in 0..count_of(t, GROUP) {
         if is_counted(t, lo, many, g) {
             return true;
         }
-        g += 1;
     }
     false
 }
 
-// Whether an element may be written at all: 21, 19, or 0 for neither.
-pub fn judge_element(t: &[u64], g: u16, i: u32) -> u8
-    ensures { result ≡ writable_no t.now g i }
+// Whether an element may be written at all: 21, 19.
+pub fn judge_element(t: &[u64], g: u16, i: u32) -> Result<(), CallRefusal>
+    ensures { number_of result ≡ writable_no t.now g i }
 {
     if is_forbidden(t, g) {
-        return FORBIDDEN;
+        return Err(CallRefusal::Forbidden);
     }
     if is_on_count(t, place_of(t, g, i), bytes_of(t, g) as u64) {
-        return ON_COUNT;
+        return Err(CallRefusal::OnCount);
     }
-    0
+    Ok(())
 }
 
-// The judgement that both writes begin with: 20, 22, 14, 21, 19, or 0 for none of them.
+// The judgement that both writes begin with: 20, 22, 14, 21, 19.
 pub fn judge(
     n: usize,
     m: usize,
@@ -63,15 +57,12 @@ pub fn judge(
     object: u32,
     part: u8,
     index: u32,
-) -> u8
-    ensures { result ≡ element_no t.now (lent_of n m base) enough object part index }
+) -> Result<(), CallRefusal>
+    ensures { number_of result ≡ element_no t.now (lent_of n m base) enough object part index }
 {
-    let no = check(n, m, base, t, enough);
-    if no != 0 {
-        return no;
+    check(n, m, base, t, enough)?;
+    if !is_element(t, object, part, index) {
+        return Err(CallRefusal::NoElement);
     }
-    if is_element(t, object, part, index) {
-        return judge_element(t, group_of(object, part), index);
-    }
-    NO_ELEMENT
+    judge_element(t, group_of(object, part), index)
 }

@@ -7,10 +7,9 @@ use cases::{bytes_of, number_at, split_once, split_part};
 use convert::edition::EDITION_ONE;
 use list::make::make_list;
 use list::write::{write_physical, write_raw};
-use listing::listing::ListingAnswer;
 use listings::whole::listing;
 use load::load;
-use look::call::CallAnswer;
+use look::refusal::CallRefusal;
 use std::io;
 use std::io::Read;
 use tables::setting::Setting;
@@ -69,10 +68,10 @@ fn part_of(word: &[u8]) -> u8 {
 }
 
 // Writes a request's number and its answer.
-fn print_answer(rt: &impl Print, n: usize, r: CallAnswer) -> io::Result<()> {
+fn print_answer(rt: &impl Print, n: usize, r: Result<(), CallRefusal>) -> io::Result<()> {
     match r {
-        CallAnswer::Done => println!(rt; "{n} ok"),
-        CallAnswer::Refused { no } => println!(rt; "{n} refused {no}"),
+        Ok(()) => println!(rt; "{n} ok"),
+        Err(r) => println!(rt; "{n} refused {}", r.number()),
     }
 }
 
@@ -99,7 +98,7 @@ fn request_of(line: &[u8]) -> Request<'_> {
 }
 
 // Makes the list of an image.
-fn make(d: Loaded<'_>, image: &[u8], kept: &mut Columns) -> CallAnswer {
+fn make(d: Loaded<'_>, image: &[u8], kept: &mut Columns) -> Result<(), CallRefusal> {
     make_list(
         d.x,
         image,
@@ -113,7 +112,7 @@ fn make(d: Loaded<'_>, image: &[u8], kept: &mut Columns) -> CallAnswer {
 }
 
 // Carries out the request of one line on the image and the list.
-fn apply(d: Loaded<'_>, image: &mut [u8], kept: &mut Columns, line: &[u8]) -> CallAnswer {
+fn apply(d: Loaded<'_>, image: &mut [u8], kept: &mut Columns, line: &[u8]) -> Result<(), CallRefusal> {
     let Request {
         object,
         part,
@@ -163,8 +162,8 @@ fn print_listing(rt: &impl Print, d: Loaded<'_>, image: &[u8], kept: &Columns) -
         &kept.second,
         &mut out,
     ) {
-        ListingAnswer::Written(n) => rt.write_all(out.get(..n).unwrap_or(b"")),
-        ListingAnswer::Refused { no } => println!(rt; "{no} refused"),
+        Ok(n) => rt.write_all(out.get(..n).unwrap_or(b"")),
+        Err(r) => println!(rt; "{} refused", r.number()),
     }
 }
 

@@ -23,5 +23,5 @@ returns c =
     let first : to_z w64 (of_z w64 a.p.first) ≡ a.p.first = search rules in
     let second : to_z w64 (of_z w64 a.p.second) ≡ a.p.second = search rules in (
       five-put a.out.now _ _ _ _ _ _ _ _ _ _ a.raw a.p a.s c.put.ensures (to_z-of_z c.ranges.raw) c.put-2.ensures (state-cast a.p.state (omega arith)) c.put-3.ensures first c.put-4.ensures second c.put-5.ensures (returned k.result k.type_inv ∙ k.ensures),
-      one-put a.shown.now _ _ a.s c.put_shown.ensures c.shown_number.ensures,
+      one-put a.shown.now _ _ a.s c.put-6.ensures c.shown_number.ensures,
     )

@@ -1,18 +1,5 @@
--- `afresh::refresh::put` meets its contract. Assumes nothing.
 use Rattle.afresh.proofs.RefreshLaws.{puts}
 use Rattle.afresh.proofs.refresh.put.Goals as goal
 
-pub offset_bounds-column-k : goal.offset_bounds-column-k
-offset_bounds-column-k c = search puts
-
-pub bounds-column-k : goal.bounds-column-k
-bounds-column-k c = search puts
-
-pub shape_of-column : goal.shape_of-column
-shape_of-column c = search puts
-
-pub returns-then-k-column : goal.returns-then-k-column
-returns-then-k-column c = search puts
-
 pub returns-else-k-column : goal.returns-else-k-column
-returns-else-k-column c = search puts
+returns-else-k-column g c = search puts

@@ -1,33 +1,15 @@
--- `list::make::make_list` meets its contract. Assumes nothing.
-use Rattle.list.proofs.CallLaws.{makes}
+use mathlib.Core.Path.{refl}
+use Rattle.std.proofs.lemmas.Result.{err_from_is_err_and}
+use Rattle.list.proofs.CallLaws.{make-room, make-refused, make-done}
 use Rattle.list.proofs.make.make_list.Goals as goal
 
-pub room_of-lines-requires : goal.room_of-lines-requires
-room_of-lines-requires c = search makes
-
-pub is_enough-enough-requires : goal.is_enough-enough-requires
-is_enough-enough-requires c = search makes
-
-pub check-no-requires : goal.check-no-requires
-check-no-requires c = search makes
-
-pub returns-then-no-ne0 : goal.returns-then-no-ne0
-returns-then-no-ne0 c = search makes
+pub returns-in_err-check : goal.returns-in_err-check
+returns-in_err-check c =
+    let p = err_from_is_err_and c.from_residual.result c.from_residual.ensures.1 in
+    rw (p.1, p.2) (make-refused _ _ _ _ _ _ _ c.in_err-check.ensures c.in_err-check.field-0.0 refl c.is_enough.ensures c.room_of-lines.ensures)
 
 pub refresh-requires : goal.refresh-requires
-refresh-requires c = search makes
-
-pub shape_of-raw : goal.shape_of-raw
-shape_of-raw c = search makes
-
-pub shape_of-state : goal.shape_of-state
-shape_of-state c = search makes
-
-pub shape_of-first : goal.shape_of-first
-shape_of-first c = search makes
-
-pub shape_of-second : goal.shape_of-second
-shape_of-second c = search makes
+refresh-requires c = make-room _ _ _ 0 _ _ c.in_ok-check.ensures refl c.is_enough.ensures c.room_of-lines.ensures
 
 pub returns : goal.returns
-returns c = search makes
+returns c = make-done _ _ _ _ _ 0 _ c.in_ok-check.ensures _ refl c.is_enough.ensures c.room_of-lines.ensures c.refresh.ensures

@@ -1,32 +1,18 @@
-use Rattle.listing.proofs.ListingLaws.{one_line}
+use mathlib.Core.Path.{refl}
+use Rattle.std.proofs.lemmas.Result.{err_from_is_err_and}
+use Rattle.listing.proofs.ListingLaws.{kept-text, line_refused, line-none, line-is}
 use Rattle.listings.proofs.element.line.Goals as goal
 
-pub check_list-no-requires : goal.check_list-no-requires
-check_list-no-requires c = search one_line
+pub returns-in_err-check_list : goal.returns-in_err-check_list
+returns-in_err-check_list c =
+    let p = err_from_is_err_and c.from_residual.result c.from_residual.ensures.1 in
+    rw (p.1, p.2) (line_refused _ _ _ _ _ c.in_err-check_list.ensures _ _ _ _ c.in_err-check_list.field-0.0 refl)
 
-pub returns-then-no-ne0 : goal.returns-then-no-ne0
-returns-then-no-ne0 c = search one_line
-
-pub is_element-requires : goal.is_element-requires
-is_element-requires c = search one_line
-
-pub group_of-g-requires : goal.group_of-g-requires
-group_of-g-requires c = search one_line
-
-pub lines_before-requires : goal.lines_before-requires
-lines_before-requires c = search one_line
-
-pub overflow_add-k : goal.overflow_add-k
-overflow_add-k c = search one_line
-
-pub write_element-requires : goal.write_element-requires
-write_element-requires c = search one_line
-
-pub shape_of-out-then-is_element : goal.shape_of-out-then-is_element
-shape_of-out-then-is_element c = search one_line
-
-pub returns-then-is_element : goal.returns-then-is_element
-returns-then-is_element c = search one_line
+pub returns-then-not-is_element : goal.returns-then-not-is_element
+returns-then-not-is_element c = line-none _ _ _ _ 0 c.in_ok-check_list.ensures _ _ _ _ _ c.is_element.ensures refl c.if-not-is_element.true
 
 pub returns : goal.returns
-returns c = search one_line
+returns c = line-is _ _ _ _ 0 c.in_ok-check_list.ensures _ _ _ _ _ c.is_element.ensures _ _ _ _ _ refl c.if-not-is_element.false c.group_of-g.ensures c.lines_before.ensures.0 refl c.write_element.ensures
+
+pub write_element-requires : goal.write_element-requires
+write_element-requires c = kept-text _ _ _ _ 0 c.in_ok-check_list.ensures refl

@@ -1,5 +1,5 @@
 use Rattle.number.specs.Most.{most_elements}
-use Prim.Native.Nat.{ℕ, ◌-◌, ◌<◌, ◌≤◌}
+use Prim.Native.Nat.{ℕ, ◌<◌, ◌≤◌}
 use mathlib.Core.List.{List}
 use mathlib.Core.Path.{◌≡◌, ap}
 use native.Mathlib.Omega.{arith}
@@ -14,27 +14,11 @@ use Rattle.listings.proofs.whole.put_elements.Goals as goal
 few : (t : List ℕ) (n k : ℕ) → n ≡ (tables_in t).counts group_section → sum_below ((tables_in t).counts group_section) (elements (tables_in t)) ≤ most_elements → k < sum_below n (elements (tables_in t)) → k < most_elements
 few t n k e m h = omega (arith, ap (λ (j : ℕ). sum_below j (elements (tables_in t))) e)
 
-pub count_of-groups-requires : goal.count_of-groups-requires
-count_of-groups-requires c = search uptos
-
 pub loop-g-init : goal.loop-g-init
 loop-g-init c = search uptos
 
-pub overflow_cast-i : goal.overflow_cast-i
-overflow_cast-i c = search uptos
-
-pub elements_of-requires : goal.elements_of-requires
-elements_of-requires c = search uptos
-
 pub put_element-p-requires : goal.put_element-p-requires
 put_element-p-requires c = search uptos
-
-pub overflow_add-i : goal.overflow_add-i
-overflow_add-i c =
-    let s = c.args in
-    let a = upto_left s.x.now s.t.now (columns s.raw.now s.state.now s.first.now s.second.now) c.elements_of.result (omega arith) c.elements_of.ensures (omega arith) c.loop-g.invariant in
-    let h = few s.t.now c.count_of-groups.result c.loop-g.k c.count_of-groups.ensures c.requires.2 a in
-    omega (arith, c.loop-g.invariant.lines)
 
 pub overflow_add-k : goal.overflow_add-k
 overflow_add-k c =
@@ -56,17 +40,8 @@ loop-g-preserved-then-i-elements_of c =
     let s = b.args in
     upto-line s.x.now s.t.now (columns s.raw.now s.state.now s.first.now s.second.now) b.elements_of.result p.put_element-p.result _ (omega arith) b.elements_of.ensures (omega arith) b.loop-g.invariant p.put_element-p.ensures.0 p.put_element-p.ensures.1
 
-pub overflow_add-g : goal.overflow_add-g
-overflow_add-g c = search uptos
-
-pub loop-g-smaller : goal.loop-g-smaller
-loop-g-smaller c = search uptos
-
 pub loop-g-preserved : goal.loop-g-preserved
 loop-g-preserved c = search uptos
-
-pub shape_of-out : goal.shape_of-out
-shape_of-out c = search uptos
 
 pub returns : goal.returns
 returns c = search uptos

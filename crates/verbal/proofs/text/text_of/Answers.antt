@@ -1,6 +1,6 @@
 use mathlib.Core.Path.{◌≡◌, ap, ◌∙◌}
 use native.Mathlib.Omega.{arith}
-use Prim.Native.Nat.{ℕ}
+use Prim.Native.Nat.{ℕ, ◌+◌, ◌-◌}
 use lib.IntN.{ℤ}
 use mir.Syntax.{w64}
 use mir.Val.{SFits}
@@ -15,32 +15,31 @@ use Rattle.verbal.proofs.text.text_of.Goals as goal
 last : (f : ℕ → ℕ → ℕ) (from count first past : ℕ) (z : ℤ) → SFits w64 z → held (verbal_of f from count first past (back z)) ≡ held (verbal_of f from count first past z)
 last f from count first past z h = ap (λ (y : ℤ). held (verbal_of f from count first past y)) (is-param h).same
 
-pub loop-left-init : goal.loop-left-init
-loop-left-init c = let t = c.args in (omega arith, walk_start (slot_in t.t.now t.c) t.from t.count t.first t.past (back t.raw))
+pub loop-e-init : goal.loop-e-init
+loop-e-init c =
+    let t = c.args in
+    let z : t.from + t.count - t.from ≡ t.count = omega arith in
+    rw z (walk_start (slot_in t.t.now t.c) t.from t.count t.first t.past (back t.raw))
 
 pub returns-then-has_number : goal.returns-then-has_number
 returns-then-has_number c =
     let t = c.args in
-    let l = c.loop-left in
+    let l = c.loop-e in
     c.entry_text.ensures
-    ∙ ap held (walk_here (slot_in t.t.now t.c) l.e (default_of (place_in t.first) (place_in t.past)) (back t.raw) c.has_number.ensures l.left c.loop-left-test.true c.if-has_number.true ∙ l.invariant.1)
+    ∙ ap held (walk_here (slot_in t.t.now t.c) l.e (default_of (place_in t.first) (place_in t.past)) (back t.raw) c.has_number.ensures (t.from + t.count - l.e) (omega (arith, c.loop-e-test.true)) c.if-has_number.true ∙ l.invariant)
     ∙ last (slot_in t.t.now t.c) t.from t.count t.first t.past t.raw c.ranges.raw
 
-pub loop-left-smaller : goal.loop-left-smaller
-loop-left-smaller c = omega arith
-
-pub loop-left-preserved : goal.loop-left-preserved
-loop-left-preserved c =
+pub loop-e-preserved : goal.loop-e-preserved
+loop-e-preserved c =
     let t = c.args in
-    let l = c.loop-left in (
-      omega arith,
-      walk-on (slot_in t.t.now t.c) l.e (default_of (place_in t.first) (place_in t.past)) (back t.raw) c.has_number.ensures l.left c.loop-left-test.true c.if-has_number.false ∙ l.invariant.1,
-    )
+    let l = c.loop-e in
+    let z : t.from + t.count - (l.e + 1) ≡ t.from + t.count - l.e - 1 = omega arith in
+    rw z (walk-on (slot_in t.t.now t.c) l.e (default_of (place_in t.first) (place_in t.past)) (back t.raw) c.has_number.ensures (t.from + t.count - l.e) (omega (arith, c.loop-e-test.true)) c.if-has_number.false ∙ l.invariant)
 
 pub returns : goal.returns
 returns c =
     let t = c.args in
-    let l = c.loop-left in
+    let l = c.loop-e in
     c.default_text.ensures
-    ∙ ap held (walk_end (slot_in t.t.now t.c) l.e (default_of (place_in t.first) (place_in t.past)) (back t.raw) l.left c.loop-left-test.false ∙ l.invariant.1)
+    ∙ ap held (walk_end (slot_in t.t.now t.c) l.e (default_of (place_in t.first) (place_in t.past)) (back t.raw) (t.from + t.count - l.e) (omega (arith, c.loop-e-test.false)) ∙ l.invariant)
     ∙ last (slot_in t.t.now t.c) t.from t.count t.first t.past t.raw c.ranges.raw

@@ -1,24 +1,16 @@
--- `wanted::stand::judge` meets its contract. Assumes nothing.
-use Rattle.wanted.proofs.StandLaws.{stands}
+use mathlib.Core.Path.{refl}
+use Rattle.std.proofs.lemmas.Result.{err_from_is_err_and}
+use Rattle.look.proofs.CheckLaws.{some_number}
+use Rattle.wanted.proofs.StandLaws.{stand-refused, stand-none, stand-is}
 use Rattle.wanted.proofs.stand.judge.Goals as goal
 
-pub check-no-requires : goal.check-no-requires
-check-no-requires c = search stands
+pub returns-in_err-check : goal.returns-in_err-check
+returns-in_err-check c =
+    let p = err_from_is_err_and c.from_residual.result c.from_residual.ensures.1 in
+    rw (p.1, p.2) (stand-refused _ _ _ _ _ _ _ c.in_err-check.ensures (some_number c.in_err-check.field-0.0))
 
-pub returns-then-no-ne0 : goal.returns-then-no-ne0
-returns-then-no-ne0 c = search stands
-
-pub is_element-requires : goal.is_element-requires
-is_element-requires c = search stands
-
-pub group_of-requires : goal.group_of-requires
-group_of-requires c = search stands
-
-pub judge_element-requires : goal.judge_element-requires
-judge_element-requires c = search stands
-
-pub returns-then-is_element : goal.returns-then-is_element
-returns-then-is_element c = search stands
+pub returns-then-not-is_element : goal.returns-then-not-is_element
+returns-then-not-is_element c = stand-none _ _ _ _ _ _ 0 c.in_ok-check.ensures refl _ c.is_element.ensures c.if-not-is_element.true
 
 pub returns : goal.returns
-returns c = search stands
+returns c = stand-is _ _ _ _ _ _ 0 c.in_ok-check.ensures refl _ c.is_element.ensures _ _ c.if-not-is_element.false c.group_of.ensures c.judge_element.ensures

@@ -1,5 +1,0 @@
-use Rattle.look.proofs.MeaningLaws.{meanings}
-use Rattle.look.proofs.element.raw_by.Goals as goal
-
-pub returns : goal.returns
-returns c = search meanings

@@ -1,10 +1,10 @@
 -- `cell::bytes::stored_at` meets its contract. Assumes nothing.
-use mathlib.Core.Path.{◌≡◌, sym, ap, ◌∙◌}
+use mathlib.Core.Path.{sym, ap, ◌∙◌}
 use Prim.Native.Nat.{ℕ, ◌+◌, ◌*◌}
 use native.Mathlib.Omega.{arith}
-use lib.ListN.{take, drop, get_or}
-use Rattle.cell.specs.Bytes.{number, byte_place}
-use Rattle.cell.proofs.Stored.{top, top-none, top-all, top-more, small, grows, place-in}
+use lib.ListN.{get_or}
+use Rattle.cell.specs.Bytes.{byte_place}
+use Rattle.cell.proofs.Stored.{top-none, top-more, small, grows}
 use Rattle.cell.proofs.bytes.stored_at.Goals as goal
 
 pub loop-i-init : goal.loop-i-init
@@ -14,11 +14,6 @@ pub overflow_mul-n : goal.overflow_mul-n
 overflow_mul-n c =
     let l = c.loop-i in
     omega (arith, small l.i l.n l.invariant.1 (omega arith))
-
-pub bounds-s-j : goal.bounds-s-j
-bounds-s-j c =
-    let a = c.args in
-    omega (arith, c.place-j.ensures, place-in a.first a.at a.width c.loop-i.i c.loop-i-test.true)
 
 pub overflow_add-n : goal.overflow_add-n
 overflow_add-n c =
@@ -35,12 +30,3 @@ loop-i-preserved c =
           ∙ sym (top-more t.first t.at t.width l.i t.s.now a.requires.1 c.loop-i-test.true),
       grows l.i l.n (get_or t.s.now c.place-j.result 0) l.invariant.1 (c.type_inv.s c.place-j.result).fits,
     )
-
-pub returns : goal.returns
-returns c =
-    let a = c in
-    let l = c.loop-i in
-    let t = a.args in
-    let e : l.i ≡ t.width = omega arith in
-    l.invariant.0 ∙ ap (λ (k : ℕ). number (top t.first t.width k (take t.width (drop t.at t.s.now)))) e
-    ∙ top-all t.first t.at t.width t.s.now a.requires.1

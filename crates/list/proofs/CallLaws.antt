@@ -8,7 +8,7 @@ use lib.Dec.{leb}
 use lib.IntN.{ℤ}
 use mir.Facts.{to_z-of_z}
 use Rattle.number.specs.Answer.{Answer, given}
-use Rattle.convert.specs.Told.{told_raw}
+use Rattle.convert.specs.Told.{told_raw, raw_refusal_number}
 use Rattle.convert.specs.declared.asked.RawRefusal.{RawRefusal}
 use Rattle.std.specs.Prelude.{Result, Ok, Err}
 use Rattle.tables.specs.Form.{tables_in, total}
@@ -17,7 +17,7 @@ use Rattle.tables.specs.Group.{group_of, elements, bytes, place_of}
 use Rattle.look.specs.Element.{past_records}
 use Rattle.look.specs.Calls.{Lent, checked, judged_element, judged_request, Kept, kept, room, has_room, groups, remade, refreshed, After, afterwards, lent_by, making, Wanted, raw_number, request, wanted_raw, stored, written_to, writing}
 use Rattle.look.specs.Steps.{picked, checked_no, element_no}
-use Rattle.look.specs.Told.{after}
+use Rattle.look.specs.Told.{after, told_by, after_by}
 use Rattle.look.specs.Refused.{refusal_number}
 use Rattle.look.specs.declared.refusal.CallRefusal.{CallRefusal}
 use Rattle.look.specs.declared.refusal.CallRefusal.TheVariants as no
@@ -108,12 +108,19 @@ pub store_is : (t image image' : List ℕ) (r : List ℤ) (s : List ℕ) (a b : 
 unfolding written_to refreshed
 store_is t image image' r s a b k' g i p w z y e h pp pw q = q ∙ rw (e, h, pp, pw)
 
-pub carried : (k k' : Kept) (f : ℤ → Kept) (x : Result ℤ RawRefusal) (z y : ℤ) → x ≡ Ok z → y ≡ z → k' ≡ f y → after (Ok (tt {0})) k' ≡ afterwards (told_raw x) k f
-carried k k' f x z y e h q = rw (q, h, e)
+-- ---- what is carried out: u is what the code answers
+module _ (x : Result ℤ RawRefusal) (u : Result (Unit {0}) RawRefusal) (k k' : Kept) (f : ℤ → Kept) (e : (tell : RawRefusal → ℕ) → after_by tell u k' ≡ afterwards (told_by tell x) k f) where
+  told-so : (y : Result ℤ RawRefusal) → told_by raw_refusal_number y ≡ told_raw y
+  told-so (Ok z) = refl
+  told-so (Err r) = refl
 
-pub not_carried : (k : Kept) (f : ℤ → Kept) (x : Result ℤ RawRefusal) (r : RawRefusal) → x ≡ Err r → after (Err (no.Raw r)) k ≡ afterwards (told_raw x) k f
-not_carried k f x r e = rw e
+  so : after_by raw_refusal_number u k' ≡ afterwards (told_raw x) k f
+  so = e raw_refusal_number ∙ ap (λ (a : Answer ℤ). afterwards a k f) (told-so x)
+
+  pub carried : u ≡ Ok tt → after (Ok tt) k' ≡ afterwards (told_raw x) k f
+  carried h = ap (λ (v : Result (Unit {0}) RawRefusal). after_by raw_refusal_number v k') (sym h) ∙ so
+
+  pub not_carried : (r : RawRefusal) → u ≡ Err r → after (Err (no.Raw r)) k' ≡ afterwards (told_raw x) k f
+  not_carried r h = ap (λ (v : Result (Unit {0}) RawRefusal). after_by raw_refusal_number v k') (sym h) ∙ so
 
 pub ruleset stores = (store_is, rules)
-
-pub ruleset carries = (carried, not_carried, rules)

@@ -1,22 +1,20 @@
 // Writes: judged in full, and then stored or refused.
-ghost use Rattle.std.specs.Prelude.{◌≡◌, ◌≤◌, length};
-ghost use Rattle.convert.specs.Told.{told_raw};
+ghost use Rattle.std.specs.Prelude.{◌≡◌, ◌≤◌, ℕ, length};
 ghost use Rattle.tables.specs.Form.{tables_in};
 ghost use Rattle.number.specs.Below.{sum_below};
 ghost use Rattle.tables.specs.Group.{elements};
 ghost use Rattle.look.specs.Calls.{kept, room, groups, raw_number, physical_text, request, afterwards, written_to, writing};
-ghost use Rattle.look.specs.Told.{after};
+ghost use Rattle.look.specs.Told.{after, after_by, told_by};
 
 use crate::store::store;
-use convert::asked::RawRefusal;
 use look::check::group_of;
 use look::refusal::CallRefusal;
 use look::room::{is_enough, room_of};
 use wanted::stand::judge;
 use wanted::wanted::{raw_asked, raw_wanted};
 
-// Carries out what is wanted of an element, where there is a raw number for it.
-pub fn carry_out(
+// Carries out what is wanted of an element, where there is a raw number for it; a refusal of any kind stays as it is.
+pub fn carry_out<R>(
     t: &[u64],
     image: &mut [u8],
     raw: &mut [i64],
@@ -25,11 +23,11 @@ pub fn carry_out(
     second: &mut [i64],
     g: u16,
     i: u32,
-    answer: Result<i64, RawRefusal>,
-) -> Result<(), CallRefusal>
+    answer: Result<i64, R>,
+) -> Result<(), R>
     requires { sum_below (groups t.now) (elements (tables_in t.now)) ≤ room (kept image.old raw.old state.old first.old second.old) }
-    ensures { after result (kept image.new raw.new state.new first.new second.new)
-        ≡ afterwards (told_raw answer) (kept image.old raw.old state.old first.old second.old)
+    ensures { (tell : R → ℕ) → after_by tell result (kept image.new raw.new state.new first.new second.new)
+        ≡ afterwards (told_by tell answer) (kept image.old raw.old state.old first.old second.old)
         (written_to t.now g i (kept image.old raw.old state.old first.old second.old)) }
 {
     let z = answer?;
@@ -61,7 +59,7 @@ pub fn write_raw(
     judge(x.len(), image.len(), base, t, enough, object, part, index)?;
     let g = group_of(object, part);
     let answer = raw_wanted(t, g, value);
-    carry_out(t, image, raw, state, first, second, g, index, answer)
+    Ok(carry_out(t, image, raw, state, first, second, g, index, answer)?)
 }
 
 // Writes a physical value, given as a decimal in text, to an element.
@@ -88,5 +86,5 @@ pub fn write_physical(
     judge(x.len(), image.len(), base, t, enough, object, part, index)?;
     let g = group_of(object, part);
     let answer = raw_asked(t, g, asked);
-    carry_out(t, image, raw, state, first, second, g, index, answer)
+    Ok(carry_out(t, image, raw, state, first, second, g, index, answer)?)
 }

@@ -27,3 +27,11 @@ told_call (Err r) = refused (refusal_number r)
 -- what a call answers, with what is kept after it
 abbrev pub after : Result (Unit {0}) CallRefusal → Kept → After
 after r k = record { answer = told_call r; left = k }
+
+-- the same of any answer whose refusals a rule tells by number
+abbrev pub told_by : {A R : Type 0} → (R → ℕ) → Result A R → Answer A
+told_by tell (Ok a) = given a
+told_by tell (Err r) = refused (tell r)
+
+abbrev pub after_by : {R : Type 0} → (R → ℕ) → Result (Unit {0}) R → Kept → After
+after_by tell r k = record { answer = told_by tell r; left = k }

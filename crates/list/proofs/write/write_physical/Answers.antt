@@ -1,6 +1,6 @@
 use mathlib.Core.Path.{refl}
 use Rattle.std.proofs.lemmas.Result.{err_from_is_err_and}
-use Rattle.list.proofs.CallLaws.{write-room, write-refused, write-is}
+use Rattle.list.proofs.CallLaws.{carried, not_carried, write-room, write-refused, write-is}
 use Rattle.list.proofs.write.write_physical.Goals as goal
 
 pub returns-in_err-judge : goal.returns-in_err-judge
@@ -11,5 +11,10 @@ returns-in_err-judge c =
 pub carry_out-requires : goal.carry_out-requires
 carry_out-requires c = write-room _ _ _ _ _ _ 0 _ _ c.in_ok-judge.ensures refl c.is_enough-enough.ensures c.room_of-lines.ensures
 
+pub returns-in_err-carry_out : goal.returns-in_err-carry_out
+returns-in_err-carry_out c =
+    let p = err_from_is_err_and c.from_residual-in_err-carry_out.result c.from_residual-in_err-carry_out.ensures.1 in
+    rw (p.1, p.2) (write-is _ _ _ _ _ _ _ _ 0 _ c.in_ok-judge.ensures refl c.is_enough-enough.ensures c.room_of-lines.ensures _ c.group_of-g.ensures _ _ _ c.raw_asked-answer.ensures (not_carried _ _ _ _ _ c.carry_out.ensures c.in_err-carry_out.field-0.0 c.in_err-carry_out.was))
+
 pub returns : goal.returns
-returns c = write-is _ _ _ _ _ _ _ _ 0 _ c.in_ok-judge.ensures refl c.is_enough-enough.ensures c.room_of-lines.ensures _ c.group_of-g.ensures _ _ _ c.raw_asked-answer.ensures c.carry_out.ensures
+returns c = write-is _ _ _ _ _ _ _ _ 0 _ c.in_ok-judge.ensures refl c.is_enough-enough.ensures c.room_of-lines.ensures _ c.group_of-g.ensures _ _ _ c.raw_asked-answer.ensures (carried _ _ _ _ _ c.carry_out.ensures c.in_ok-carry_out.was)

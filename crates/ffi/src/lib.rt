@@ -14,7 +14,7 @@ use load::load;
 use look::read::read;
 use look::refusal::CallRefusal;
 use named::search;
-use numbers::told::{call_number, find_number, listing_number, load_number};
+use numbers::told::{by_number, call_number, find_number, listing_number, load_number};
 use numbers::version::version_number;
 use readings::{has_room, put_reading};
 use tables::setting::Setting;
@@ -53,7 +53,7 @@ pub extern "C" fn obarsivel_find(
 ) -> i64
     ensures { result ≡ find_number (searched text.now tables.now (lent_of (length text.now) (length image.now) base) name.now) }
 {
-    find_number(search(text, image, base, tables, name))
+    find_number(by_number(search(text, image, base, tables, name)))
 }
 
 // Reads an element: 0 and its five numbers and the shown one, or the refusal's number.
@@ -99,7 +99,8 @@ pub extern "C" fn obarsivel_make_list(
     ensures { list_call result (kept image.now raw.new state.new first.new second.new)
         ≡ list_told (making tables.now (length text.now) base (kept image.now raw.old state.old first.old second.old)) }
 {
-    call_number(make_list(text, image, base, tables, raw, state, first, second))
+    let made = make_list(text, image, base, tables, raw, state, first, second);
+    call_number(by_number(made))
 }
 
 // Writes a raw number: 0 or the refusal's number.
@@ -122,9 +123,10 @@ pub extern "C" fn obarsivel_write_raw(
         ≡ list_told (writing tables.now (length text.now) base (kept image.old raw.old state.old first.old second.old)
         (request object part index (raw_number value))) }
 {
-    call_number(write_raw(
+    let written = write_raw(
         text, image, base, tables, raw, state, first, second, object, part, index, value,
-    ))
+    );
+    call_number(by_number(written))
 }
 
 // Writes a physical value, asked in text: 0 or the refusal's number.
@@ -147,9 +149,10 @@ pub extern "C" fn obarsivel_write_physical(
         ≡ list_told (writing tables.now (length text.now) base (kept image.old raw.old state.old first.old second.old)
         (request object part index (physical_text asked.now))) }
 {
-    call_number(write_physical(
+    let written = write_physical(
         text, image, base, tables, raw, state, first, second, object, part, index, asked,
-    ))
+    );
+    call_number(by_number(written))
 }
 
 // Prints the listing: how many bytes, or minus the refusal's number.
@@ -168,5 +171,6 @@ pub extern "C" fn obarsivel_listing(
     ensures { listing_call result out.new
         ≡ listing_told (listing text.now tables.now base (kept image.now raw.now state.now first.now second.now) out.old) }
 {
-    listing_number(listing(text, image, base, tables, raw, state, first, second, out))
+    let printed = listing(text, image, base, tables, raw, state, first, second, out);
+    listing_number(by_number(printed))
 }

@@ -1,5 +1,5 @@
 -- How the C functions tell an answer as a number, in the words of include/obarsivel.h, and what the lent buffers hold after a call.
-use Rattle.std.specs.Prelude.{ℕ, zero, suc, ◌+◌, ◌*◌, ◌%◌, ◌^◌, List, [], ◌∷◌, false, ◌&&◌, leb, Float, ℤ, pos, negsuc, neg_ℤ, length, Result, Ok, Err}
+use Rattle.std.specs.Prelude.{ℕ, zero, suc, ◌+◌, ◌*◌, ◌%◌, ◌^◌, List, [], ◌∷◌, false, ◌&&◌, leb, Float, ℤ, pos, negsuc, neg_ℤ, length, Option, Some, None, Result, Ok, Err}
 use Rattle.std.specs.Float.{fin}
 use Rattle.text.specs.Answer as placed
 use Rattle.text.specs.declared.cursor.Refusal.{Refusal}
@@ -50,6 +50,25 @@ load_told o = load_call (load_number o.answer) o.tables o.work
 -- ---- obarsivel_find
 
 -- "Answers its number .., -1 if none bears it, or -20, -22" (the search tells a number as one more, and none as 0)
+-- an answer with its refusal told by number
+abbrev pub by_number : {A : Type 0} → Result A CallRefusal → Result A ℕ
+by_number (Ok a) = Ok a
+by_number (Err r) = Err (refusal_number r)
+
+-- what is answered where the refusals are told by number: a search, a call on the list, a listing
+abbrev pub told_found : Result (Option ℕ) ℕ → Answer ℕ
+told_found (Ok (Some i)) = given (suc i)
+told_found (Ok None) = given 0
+told_found (Err n) = refused n
+
+abbrev pub told_done : Result (Unit {0}) ℕ → Answer (Unit {0})
+told_done (Ok u) = given tt
+told_done (Err n) = refused n
+
+abbrev pub told_written : Result ℕ ℕ → Answer ℕ
+told_written (Ok n) = given n
+told_written (Err n) = refused n
+
 abbrev pub find_number : Answer ℕ → ℤ
 find_number (given zero) = negsuc 0
 find_number (given (suc i)) = pos i
@@ -110,11 +129,6 @@ unfoldable pub list_told : After → ListCall
 list_told a = list_call (call_number a.answer) a.left
 
 -- ---- obarsivel_listing
-
--- what a listing answers
-abbrev pub told_listing : Result ℕ CallRefusal → Answer ℕ
-told_listing (Ok n) = given n
-told_listing (Err r) = refused (refusal_number r)
 
 -- "Answers how many bytes it wrote, or -20 .., -22"
 abbrev pub listing_number : Answer ℕ → ℤ

@@ -1,8 +1,6 @@
 // The library's answers as numbers.
 ghost use Rattle.std.specs.Prelude.{◌≡◌, pos, neg_ℤ};
-ghost use Rattle.look.specs.Refused.{refusal_number};
-ghost use Rattle.look.specs.Told.{told_search, told_call};
-ghost use Rattle.numbers.specs.Numbers.{told_load, load_number, find_number, call_number, told_listing, held_count, listing_number};
+ghost use Rattle.numbers.specs.Numbers.{told_load, load_number, find_number, call_number, by_number, told_found, told_done, told_written, held_count, listing_number};
 
 use look::refusal::CallRefusal;
 use text::cursor::Refusal;
@@ -26,37 +24,47 @@ pub fn load_number(a: Result<(), Refusal>) -> u64
     }
 }
 
-// A refusal's number below zero.
-fn minus(r: CallRefusal) -> i64
-    ensures { result ≡ neg_ℤ (pos (refusal_number r)) }
+// An answer with its refusal told by number.
+pub fn by_number<T>(a: Result<T, CallRefusal>) -> Result<T, u8>
+    ensures { result ≡ by_number a }
 {
-    -(r.number() as i64)
+    match a {
+        Ok(x) => Ok(x),
+        Err(r) => Err(r.number()),
+    }
+}
+
+// A refusal's number below zero.
+fn minus(no: u8) -> i64
+    ensures { result ≡ neg_ℤ (pos «no») }
+{
+    -(no as i64)
 }
 
 // What a search answers: the object's number, −1 where none bears the name, the refusal's number below zero.
-pub fn find_number(a: Result<Option<u16>, CallRefusal>) -> i64
-    ensures { result ≡ find_number (told_search a) }
+pub fn find_number(a: Result<Option<u16>, u8>) -> i64
+    ensures { result ≡ find_number (told_found a) }
 {
     match a {
         Ok(Some(i)) => i as i64,
         Ok(None) => -1,
-        Err(r) => minus(r),
+        Err(no) => minus(no),
     }
 }
 
 // What a call on the list answers: 0 where it is done, else the refusal's number.
-pub fn call_number(a: Result<(), CallRefusal>) -> u32
-    ensures { result ≡ call_number (told_call a) }
+pub fn call_number(a: Result<(), u8>) -> u32
+    ensures { result ≡ call_number (told_done a) }
 {
-    a.err().map_or(0, |r| r.number() as u32)
+    a.err().map_or(0, |no| no as u32)
 }
 
 // What a listing answers: how many bytes, or the refusal's number below zero.
-pub fn listing_number(a: Result<usize, CallRefusal>) -> i64
-    ensures { result ≡ listing_number (held_count (told_listing a)) }
+pub fn listing_number(a: Result<usize, u8>) -> i64
+    ensures { result ≡ listing_number (held_count (told_written a)) }
 {
     match a {
         Ok(n) => ((n as u64) % BYTES) as i64,
-        Err(r) => minus(r),
+        Err(number) => minus(number),
     }
 }

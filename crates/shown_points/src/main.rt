@@ -53,11 +53,7 @@ fn print_physical(rt: &impl Print, p: Physical) -> io::Result<()> {
 }
 
 // Prints what a raw number shows by a conversion.
-fn shown(
-    rt: &impl Print,
-    answer: Result<Coefficients, NoConversion>,
-    raw: i64,
-) -> io::Result<()> {
+fn shown(rt: &impl Print, answer: Result<Coefficients, NoConversion>, raw: i64) -> io::Result<()> {
     match answer {
         Ok(k) => print_physical(rt, fraction_of(k, raw)),
         Err(NoConversion) => print_refusal(rt, 10),

@@ -112,7 +112,12 @@ fn make(d: Loaded<'_>, image: &[u8], kept: &mut Columns) -> Result<(), CallRefus
 }
 
 // Carries out the request of one line on the image and the list.
-fn apply(d: Loaded<'_>, image: &mut [u8], kept: &mut Columns, line: &[u8]) -> Result<(), CallRefusal> {
+fn apply(
+    d: Loaded<'_>,
+    image: &mut [u8],
+    kept: &mut Columns,
+    line: &[u8],
+) -> Result<(), CallRefusal> {
     let Request {
         object,
         part,

@@ -37,8 +37,6 @@ pub ruleset puts = (put-past, rules)
 pub put_back : (l m : List ℤ) (k : ℕ) (y z : ℤ) → m ≡ set l k y → y ≡ z → m ≡ set l k z
 put_back l m k y z p e = p ∙ rw e
 
-pub ruleset backs = (put_back, rules)
-
 -- ---- one line
 same_kept : (img : List ℕ) {r r' : List ℤ} {s s' : List ℕ} {a a' b b' : List ℤ} → r ≡ r' → s ≡ s' → a ≡ a' → b ≡ b' → kept img r s a b ≡ kept img r' s' a' b'
 same_kept img p q u v = λ i. record { image = img; raw = p i; state = q i; first = u i; second = v i }

@@ -14,7 +14,7 @@ use look::meaning::{Meaning, line_by, meaning_of};
 use tables::form::{GROUP, count_of};
 use tables::group::{Storage, elements_of, storage_of};
 
-// Stores a value in a lent slice; nothing past its end.
+// Stores a value in a lent slice; nothing past its end. (With get_mut the proof didn't close, as in records::set.)
 pub fn put<T: Copy>(column: &mut [T], k: usize, v: T)
     ensures { column.new ≡ set column.old k v }
 {

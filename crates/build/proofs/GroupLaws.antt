@@ -106,12 +106,6 @@ pub ruleset y-parts = (y-stored, y-none, rules)
 
 pub ruleset values-parts = (values-stored, values-none, rules)
 
-pub values-spot-is : (v : View) (i base w p : ℕ) (o : Known) → w ≡ values_walk v i o.number → p ≡ o.places.values - base
-    → spot o.layout.values.kind o.first p o.places.cx o.places.cy w ≡ spot o.layout.values.kind o.first (o.places.values - base) o.places.cx o.places.cy (values_walk v i o.number)
-values-spot-is v i base w p o a b = rw (a, b)
-
-pub ruleset values-spots = (values-spot-is, rules)
-
 pub parts_are : (a b c u u₁ u₂ u₃ : List ℕ) → u₁ ≡ row_in u group_section a → u₂ ≡ row_in u₁ group_section b → u₃ ≡ row_in u₂ group_section c → u₃ ≡ rows_in u group_section (a ∷ b ∷ c ∷ [])
 unfolding rows_in
 parts_are a b c u u₁ u₂ u₃ p q r = r ∙ rw (q, p)

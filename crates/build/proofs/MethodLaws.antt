@@ -32,10 +32,6 @@ use Rattle.build.specs.Build.{flag, is_below, number_cells, coefficients_in, con
 use Rattle.build.specs.Row.{puts_at, opened, row_in}
 use Rattle.build.proofs.RowLaws.{puts-on}
 
-pub below-is : (z : ℤ) → lt_z z (pos 0) ≡ is_below z
-below-is (pos n) = le-ltb n 0 (omega arith)
-below-is (negsuc n) = refl
-
 -- y is the number that was handed on
 pub whole_is : (m k sign most : ℕ) (b : Bool) (y z : ℤ) (u w : List ℕ) → b ≡ is_below y → sign ≡ flag b → most ≡ nat_abs y → w ≡ puts_at u form.method_section m k (sign ∷ most ∷ []) → y ≡ z → w ≡ puts_at u form.method_section m k (number_cells z)
 whole_is m k sign most b y z u w p q r s e = s ∙ rw (q, p, r, e)
@@ -94,16 +90,9 @@ fraction-is v i c m a d k u u₁ u₂ u₃ u₄ pc pa pd pk p o q r s =
 
 pub ruleset fractions = (fraction-is, rules)
 
-pub table-number-is : (x : List ℕ) (v : View) (i a e n : ℕ) (f : Option ℕ) → a ≡ v.slots method i compu_tab_ref → e ≡ v.slots method i compu_tab_ref_past → found_at f ≡ find x v table a e → n ≡ found_at f → n ≡ table_number x v i
-table-number-is x v i a e n f p q r s = s ∙ r ∙ rw (p, q)
-
-pub ruleset table-numbers = (table-number-is, rules)
-
 pub verbal-is : (n m : ℕ) (u u₁ u₂ u₃ u₄ : List ℕ) → m ≡ count_in u (section_in table_sections form.method_section) → u₁ ≡ opened u form.method_section → u₂ ≡ put_in u₁ (section_in table_sections form.method_section) m 0 22
     → u₃ ≡ puts_at u₂ form.method_section m 1 (replicate 8 0) → u₄ ≡ put_in u₃ (section_in table_sections form.method_section) m 9 n → u₄ ≡ row_in u form.method_section (verbal_row n)
 verbal-is n m u u₁ u₂ u₃ u₄ p o q r s = row-of-ten 22 n m (replicate 8 0) u u₁ u₂ u₃ u₄ refl p o q r s
-
-pub ruleset verbals = (verbal-is, rules)
 
 module _ (x : List ℕ) (v : View) (i k n : ℕ) (p : k ≡ v.slots method i conversion_type) (q : n ≡ table_number x v i) (u w : List ℕ) where
   pub method-verbal : (eqb k 22 && not (eqb n 0)) ≡ true → w ≡ row_in u form.method_section (verbal_row n) → w ≡ row_in u form.method_section (method_row x v i)

@@ -73,11 +73,6 @@ module _ (u : List ℕ) (g : ℕ) where
   standing-is p first u₁ u₂ h q r = r ∙ rw (q, h) (sym (puts-on u group_section g 0 (p.kind ∷ flag p.first ∷ p.place ∷ p.cx ∷ []) (p.cy ∷ p.cx ∷ p.cy ∷ p.walk ∷ [])))
 
   module _ (e : Entry) (place : ℕ) (w : List ℕ) where
-    pub counter-there : e.present ≡ true → w ≡ puts_at u group_section g 17 (e.kind ∷ place ∷ []) → w ≡ puts_at u group_section g 17 (counter_cells e place)
-    counter-there h q = q ∙ rw h
-
-    pub counter-none : e.present ≡ false → w ≡ puts_at u group_section g 17 (0 ∷ 0 ∷ []) → w ≡ puts_at u group_section g 17 (counter_cells e place)
-    counter-none h q = q ∙ rw h
 
 pub ruleset decimals = (decimal-is, rules)
 
@@ -86,8 +81,6 @@ pub ruleset limits = (limits-is, rules)
 pub ruleset meanings = (meaning-is, rules)
 
 pub ruleset standings = (standing-is, rules)
-
-pub ruleset counters = (counter-there, counter-none, rules)
 
 pub meaning-long : (x : List ℕ) (v : View) (s : Source) (mask : ℕ) (f : Bool) → length (meaning x v s mask f) ≡ 9
 unfolding meaning limit_cells
@@ -120,8 +113,6 @@ module _ (u u₁ : List ℕ) (g : ℕ) (pg : g ≡ count_in u (section_in table_
       → u₃ ≡ puts_at u₂ group_section g 8 (meaning x v s mask f) → u₄ ≡ puts_at u₃ group_section g 17 (replicate 2 0)
       → u₄ ≡ row_in u group_section (standing_cells p.kind p.first p.place p.cx p.cy p.walk ++ (meaning x v s mask f ++ (0 ∷ 0 ∷ [])))
   values-is x v p s mask f u₂ u₃ u₄ = runs (standing_cells p.kind p.first p.place p.cx p.cy p.walk) (meaning x v s mask f) (0 ∷ 0 ∷ []) u₂ u₃ u₄ refl (meaning-long x v s mask f)
-
-pub ruleset nones = (none_is, rules)
 
 pub ruleset axes = (axis-is, rules)
 

@@ -97,8 +97,6 @@ pub masked-le : (stored mask : ℕ) → masked stored mask ≤ stored
 masked-le stored mask = omega (arith, shr_le (bit_and stored mask) (lowest mask), and_le_l stored mask)
 
 -- ---- the code's shifts lose no bit
-pub fit-lt : (raw mask : ℕ) → fits_mask raw mask ≡ true → mask < 2 ^ 64 → shifted raw mask < 2 ^ 64
-fit-lt raw mask f h = omega (arith, eqb-true (bit_and (shifted raw mask) mask) (shifted raw mask) f, and_le_r (shifted raw mask) mask)
 
 pub shift-exact : (raw mask : ℕ) → raw ≤ mask / 2 ^ lowest mask → mask < 2 ^ 64 → shifted raw mask % 2 ^ 64 ≡ shifted raw mask
 shift-exact raw mask l h =

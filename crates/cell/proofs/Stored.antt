@@ -24,10 +24,6 @@ unfolding number
 top-none true p w s h = refl
 top-none false p w s h = ap number (sym (drop_of_length-le (take w (drop p s)) {i = w - 0} (omega (arith, part_length p w s h))))
 
-pub top-all : (first : Bool) (p w : ℕ) (s : List ℕ) → p + w ≤ length s → number (top first w w (take w (drop p s))) ≡ stored_at first p w s
-top-all true p w s h = ap (λ (l : List ℕ). number (reverse l)) (take_all w (take w (drop p s)) (omega (arith, part_length p w s h)))
-top-all false p w s h = let e : w - w ≡ 0 = omega arith in rw e
-
 front-more : (q : List ℕ) (i : ℕ) → i < length q → number (reverse (take (i + 1) q)) ≡ number (reverse (take i q)) * 256 + get_or q i 0
 unfolding number
 front-more q i h = rw (add-one, take-suc q i 0, reverse-append)
@@ -123,10 +119,6 @@ small i n h k = lt_of_lt_of_le h (pow-le-pow_right (lit< tt) {j = 3} (omega arit
 
 pub grows : (i n b : ℕ) → n < 256 ^ i → b < 256 → n * 256 + b < 256 ^ (i + 1)
 grows i n b h k = rw (add-one, pow-suc) (omega arith)
-
-pub place-in : (first : Bool) (p w i : ℕ) → i < w → byte_place first p w i < p + w
-place-in true p w i h = omega arith
-place-in false p w i h = omega arith
 
 pub storing-step : (first : Bool) (p w i m : ℕ) (s : List ℕ) → i < w
     → storing first p w (w - (i + 1)) (m / 256) (set s (byte_place (not first) p w i) (m % 256)) ≡ storing first p w (w - i) m s

@@ -24,10 +24,6 @@ pub neg_bits : (w : ℕ) (z : ℤ) → lt_z z (pos 0) ≡ true → 256 ^ w - nat
 neg_bits w (pos n) h = not-below n h
 neg_bits w (negsuc n) h = refl
 
-pub pos-bits : (w : ℕ) (z : ℤ) → lt_z z (pos 0) ≡ false → nat_abs z ≡ bits_of w z
-pos-bits w (pos n) h = refl
-pos-bits w (negsuc n) h = clash h
-
 pub neg-signed : (w : ℕ) (z : ℤ) → lt_z z (pos 0) ≡ true → leb (nat_abs z) (256 ^ w / 2) ≡ fits_type true w z
 neg-signed w (pos n) h = not-below n h
 neg-signed w (negsuc n) h = refl

@@ -22,12 +22,6 @@ module _ (p : Physical) {m n : ℕ} (em : m ≡ nat_abs p.first) (en : n ≡ nat
   test : (leb m 9007199254740992 && leb n 9007199254740992) ≡ (leb (nat_abs p.first) 9007199254740992 && leb (nat_abs p.second) 9007199254740992)
   test = ap₂ (λ (x y : ℕ). leb x 9007199254740992 && leb y 9007199254740992) em en
 
-  pub exact-both : (leb m 9007199254740992 && leb n 9007199254740992) ≡ true → (nat_abs p.first ≤ 9007199254740992) × (nat_abs p.second ≤ 9007199254740992)
-  exact-both h =
-      let x = leb (nat_abs p.first) 9007199254740992 in
-      let y = leb (nat_abs p.second) 9007199254740992 in
-      (leb-true (nat_abs p.first) 9007199254740992 (left-true x y (sym test ∙ h)), leb-true (nat_abs p.second) 9007199254740992 (right-true x y (sym test ∙ h)))
-
   pub shown-real : {x : Float} → p.state ≡ 1 → (leb m 9007199254740992 && leb n 9007199254740992) ≡ true → x ≡ quotient p.first p.second → real x ≡ shown (meant p)
   unfolding shown
   shown-real s h e = rw (s, sym test ∙ h) (ap real e)

@@ -81,9 +81,6 @@ pub record Gathering (s : List ℕ) (at n i : ℕ) (p : Part) : Type 0 where
   pub few : p.z ≤ i
 
 module _ (s : List ℕ) (at : ℕ) where
-  pub gather-start : (p : Part) → p.m ≤ most_whole → Full p → p.z ≤ at → Gathering s at (p.m * 10 ^ p.z) at p
-  gather-start p h f g = record { place = refl; value = refl; most = h; full = f; few = g }
-
   module _ (n i : ℕ) (p : Part) (q : Gathering s at n i p) where
     gather-ends : leading (left s i) ≡ [] → KeptDigits s at n (record { end = i; part = p })
     unfolding value_on
@@ -119,5 +116,3 @@ module _ (s : List ℕ) (at : ℕ) where
               full = a.full;
               few = omega (arith, a.few, q.few);
             }
-
-pub ruleset gathering = (gather-start, gather-end, gather-stop, gather-over, gather-on, rules)

@@ -93,12 +93,6 @@ module _ (x : Option Exponent) (neg : Bool) (i : List ℕ) where
 
 -- what `gather` says
 module _ (s : List ℕ) (at n : ℕ) (g : Gathered) (k : KeptDigits s at n g) where
-  pub kept-few : g.part.z ≤ g.end + 1
-  kept-few = omega (arith, k.few)
-
-  pub kept-later : at ≤ g.end
-  kept-later = omega (arith, k.place)
-
   kept-end : at ≤ length s → g.end ≤ length s
   kept-end h = omega (arith, k.place, some_first (drop at s), length-drop at s)
 

@@ -24,6 +24,7 @@ pub fn find(x: &[u8], t: &[u64], j: u8, a: usize, e: usize) -> Option<u16>
         let from = get(t, at) as usize;
         let to = get(t, at + 1) as usize;
         if is_like(x, from, to, n, last) {
+            // Backward, and given up where the first byte or a last one differs, before the rest is looked at: no iterator says it plainer.
             let mut k = n;
             loop {
                 if k == 0 {

@@ -18,7 +18,7 @@ use rows::{limit_cell, param_cell};
 use text::cursor::{Cursor, Refusal};
 use words::class::Class;
 
-// The kinds of a piece.
+// The kinds of a piece: numbers and no enum, since the clauses of taken and refuse hold of any number.
 pub const NAME: u8 = 0;
 
 pub const TEXT: u8 = 1;

@@ -5,7 +5,8 @@ ghost use Rattle.grammar.specs.Move.{state, idle};
 use crate::view::NONE;
 use text::cursor::Cursor;
 
-// Where a keyword, the word after `/begin`, the word after `/end`, or nothing more is expected.
+// Where a keyword, the word after `/begin`, the word after `/end`, or nothing more is expected:
+// numbers and no enum, since taken answers for a state of any mode, as its clause says.
 pub const ITEMS: u8 = 0;
 
 pub const BEGUN: u8 = 1;

@@ -9,7 +9,7 @@ use crate::state::Act;
 use number::decimal::Decimal;
 use records::Section;
 
-// The sections, and none.
+// The sections, and none: numbers and no enum, since slot_of answers for any number, as its clause says.
 pub const FILE: u8 = 0;
 
 pub const METHOD: u8 = 1;

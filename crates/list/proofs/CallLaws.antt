@@ -97,9 +97,6 @@ module _ (t : List ℕ) (n base : ℕ) (k : Kept) (enough : Bool) (o p i r lines
     write-raw-is z y b e v = write-is (raw_number z) (e ∙ ap (λ (u : ℤ). wanted_raw (tables_in t) g (raw_number u)) b) v
 
 -- what the two writes need, and no more: of many facts a short list is found sooner
-pub ruleset raw-writes = (tt, to_z-of_z, write-room, write-refused, write-raw-is)
-
-pub ruleset physical-writes = (tt, write-room, write-refused, write-is)
 
 -- ---- an accepted write
 pub store_is : (t image image' : List ℕ) (r : List ℤ) (s : List ℕ) (a b : List ℤ) (k' : Kept) (g i p w : ℕ) (z y : ℤ) → image' ≡ stored t g i image y → y ≡ z

@@ -49,14 +49,9 @@ use Rattle.listing.specs.Listing.{Columns, columns, columns_of, kept_no, printin
 pub number_past : (l : List ℤ) (k : ℕ) → length l ≤ k → pos 0 ≡ get_or l k (pos 0)
 number_past l k h = sym (get_or-eq_default l (pos 0) h)
 
-pub state-past : (l : List ℕ) (k : ℕ) → length l ≤ k → 0 ≡ get_or l k 0
-state-past l k h = sym (get_or-eq_default l 0 h)
-
 -- a number of a column is the same where a call is given it
 pub given_back : {z : ℤ} → mag z < 2 ^ 63 → to_z w64 (of_z w64 z) ≡ z
 given_back h = to_z-of_z {w = w64} (record { sfits = h })
-
-pub ruleset columns-read = (number_past, state-past, rules)
 
 -- ---- sums
 
@@ -84,8 +79,6 @@ module _ (x t : List ℕ) (raw : List ℤ) (state : List ℕ) (first second : Li
   unfolding printed_line
   element-put g i k o a e p s z n d y u v h1 h2 h3 h4 h5 h6 h7 h8 h9 h10 h11 q =
       rw (h9 ∙ h5, h10 ∙ h7, h11 ∙ h8, h6, h4, h2, h3, h1) at q
-
-pub ruleset element-puts = (element-put, rules)
 
 -- ---- the loop
 

@@ -18,7 +18,8 @@ use tables::group::elements_of;
 // How many bytes the header has.
 const HEADER: usize = 29;
 
-// Puts the lines of all elements.
+// Puts the lines of all elements. One loop over groups and elements, since the place in the columns goes on through all groups: two would
+// need a function of twelve parameters between them, which is no plainer.
 fn put_elements(
     out: &mut [u8],
     at: usize,

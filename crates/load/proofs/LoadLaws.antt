@@ -78,8 +78,6 @@ module _ (image : List ℕ) (s : Setting) (x : List ℕ) (v : View) (r : Result 
       let e : refused d.no d.place ≡ judged_all image s.base x v = ap told_turn (sym y) ∙ p in
       ap (refusing d.no d.place) q ∙ ap (λ (a : Answer ℕ). filled (length t) (with a (λ k. given (built image s x v k)))) e
 
-pub ruleset lasts = (last-fine, last-refused, rules)
-
 pub ruleset alls = (all-fine, all-refused, rules)
 
 pub ruleset fills = (fill-accepted, fill-refused, rules)

@@ -19,10 +19,6 @@ use Rattle.look.specs.Steps.{checked_no}
 use Rattle.look.proofs.CheckLaws.{checked-tests}
 
 -- whether the lines are enough
-pub enough-is : (t : List ℕ) (a lines : ℕ) → a ≡ total (tables_in t) → leb a lines ≡ leb (total (tables_in t)) lines
-enough-is t a lines e = rw e
-
-pub ruleset enoughs = (enough-is, rules)
 
 -- every element has its line, where the call is not refused
 pub lines-hold : (t : List ℕ) (l : Lent) (r lines : ℕ) (enough : Bool) → enough ≡ leb (total (tables_in t)) lines → r ≡ checked_no t l enough → r ≡ 0

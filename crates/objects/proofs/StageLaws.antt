@@ -104,9 +104,6 @@ module _ (image : List ℕ) (base : ℕ) (x : List ℕ) (v : View) (seen : List 
         → Goes image base x v seen (named x v i 1 ++ (i ∷ [])) used r seen₂
     later-on n y r seen₂ q w = goes_then (named x v i 1) (i ∷ []) used r₁ seen₁ p n y r seen₂ (goes_one image base x v seen₁ i n r seen₂ q w)
 
-    pub later-stop : (d : Refusal) → r₁ ≡ Err d → Goes image base x v seen (named x v i 1 ++ (i ∷ [])) used (refused d.no d.place) seen₁
-    later-stop d y = goes-stop (named x v i 1) (i ∷ []) used r₁ seen₁ p d y seen₁
-
   -- and for x
   module _ (i used : ℕ) (r₁ : Result ℕ Refusal) (seen₁ : List ℕ) (p : Goes image base x v seen (named x v i 0) used (told_turn r₁) seen₁) where
     pub turns-on : (n : ℕ) → r₁ ≡ Ok n → (r : Answer ℕ) (seen₂ : List ℕ) → Goes image base x v seen₁ (named x v i 1 ++ (i ∷ [])) n r seen₂
@@ -119,8 +116,6 @@ module _ (image : List ℕ) (base : ℕ) (x : List ℕ) (v : View) (seen : List 
 pub ruleset turns = (turn-open, turn-seen, mark-open, mark-seen)
 
 pub ruleset nameds = (named-one, named_none)
-
-pub ruleset laters = (later-on, later-stop)
 
 pub ruleset together = (turns-on, turns-stop)
 

@@ -76,16 +76,9 @@ square-fits a b f g = let k : a ≤ 65535 = omega arith in let l : b ≤ 65535 =
 pub ruleset ones = (bytes-of, start-low, end_low, square-fits, one-values, one-x, one-y, one-count-x, one-count-y, no-count-x, no-count-y, rules)
 
 module _ (g : Ground) (n : Need) (image : List ℕ) (s : Reached) (p : Part) where
-  pub next-stands : (r : Answer Reached) → p.entry.present ≡ true → r ≡ place_one g n image s p → r ≡ step g n image (given s) p
-  next-stands r h f = rw (f, h)
-
-  pub next-absent : p.entry.present ≡ false → given s ≡ step g n image (given s) p
-  next-absent h = rw h
 
 pub at_least : (a b : ℕ) → a ≤ a + b
 at_least a b = omega arith
-
-pub ruleset nexts = (at_least, next-stands, next-absent, rules)
 
 pub start_is : (g : Ground) (n : Need) (x y : ℕ) → x ≡ points_of n.x → y ≡ points_of n.y
     → record { free = g.address; any = false; places = record { values = 0; x = 0; y = 0; nx = 0; ny = 0; cx = x; cy = y } } ≡ start g n

@@ -81,20 +81,7 @@ pub ruleset references = (reference-none, reference-past, reference-is, rules)
 
 -- the sooner of two, by the branches of the code
 module _ (a b : Told) where
-  pub sooner-fine : (u : Unit {0}) → a ≡ Ok u → told_reference b ≡ sooner (told_reference a) (told_reference b)
-  sooner-fine u y = rw y
-
   module _ (p : Refusal) (y : a ≡ Err p) where
-    pub sooner-one : (u : Unit {0}) → b ≡ Ok u → told_reference a ≡ sooner (told_reference a) (told_reference b)
-    sooner-one u z = rw (y, z)
-
-    pub sooner-second : (q : Refusal) → b ≡ Err q → q.place < p.place → told_reference b ≡ sooner (told_reference a) (told_reference b)
-    sooner-second q z l = rw (y, z, lt-ltb q.place p.place l)
-
-    pub sooner-first : (q : Refusal) → b ≡ Err q → p.place ≤ q.place → told_reference a ≡ sooner (told_reference a) (told_reference b)
-    sooner-first q z l = rw (y, z, le-ltb q.place p.place l)
-
-pub ruleset sooners = (sooner-fine, sooner-one, sooner-second, sooner-first, rules)
 
 -- of three it is the same which two are first compared
 sooner_assoc : (a b c : Answer (Unit {0})) → sooner (sooner a b) c ≡ sooner a (sooner b c)

@@ -8,7 +8,7 @@ use Rattle.std.specs.Prelude.{map}
 use Rattle.rows.specs.Row.{Row}
 use Rattle.rows.specs.Rows.{rows, needed}
 use Rattle.rows.specs.Numbered.{no_row, row_at, no_need, need_at, no_param, all_params, param_at, starts_from, first_param}
-use Rattle.rows.specs.Cells.{row_numbers, param_numbers, limit_numbers, need_numbers, rows_from, row_cells, param_cells, limit_cells, need_cells, cell_in, row_cell, param_cell, limit_cell, need_cell}
+use Rattle.rows.specs.Cells.{row_numbers, param_numbers, limit_numbers, need_numbers, rows_from, row_cells, param_cells, limit_cells, need_cells, row_cell, param_cell, limit_cell, need_cell}
 use Rattle.rows.specs.declared.TheConstants.{ROWS, PARAMS, LIMITS, NEEDS}
 
 pub row_count : length rows ≡ 45
@@ -38,6 +38,10 @@ unfolding need_cells needed
 needs-are = refl
 
 -- ---- a number of a table is a field of its row
+
+-- number f of row i of a table; past its numbers and its rows every number is 0
+abbrev cell_in : List (List ℕ) → ℕ → ℕ → ℕ
+cell_in t i f = get_or (get_or t i []) f 0
 
 zeros : (n f : ℕ) → get_or {A = ℕ} (replicate n 0) f 0 ≡ 0
 zeros zero f = refl

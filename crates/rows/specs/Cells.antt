@@ -38,10 +38,6 @@ limit_cells = map limit_numbers all_params
 unfoldable pub need_cells : List (List ℕ)
 need_cells = map need_numbers needed
 
--- number f of row i of a table; past its numbers and its rows every number is 0
-abbrev pub cell_in : List (List ℕ) → ℕ → ℕ → ℕ
-cell_in t i f = get_or (get_or t i []) f 0
-
 -- ---- number f of row i, of parameter p, of its limits, of need i
 
 abbrev pub row_cell : ℕ → ℕ → ℕ

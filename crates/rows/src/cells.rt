@@ -1,4 +1,5 @@
 // Which number of a table's row is which field: specs/Cells.antt has the same order.
+// Numbers and no fields of a struct: row_cell and the others answer for any number, as their clauses say.
 
 // Of a keyword's row.
 pub const ROW_PARENT: u8 = 0;

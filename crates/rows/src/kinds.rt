@@ -1,4 +1,5 @@
 // The kinds of parameters: specs/Kinds.antt has the same numbers.
+// Numbers and no enum: a kind is a cell of its parameter's row, which param_cell gives as its clause says.
 pub const NAME: u8 = 1;
 
 pub const STRING: u8 = 2;

@@ -6,9 +6,9 @@ pub mod cells;
 pub mod kinds;
 pub mod slots;
 
-ghost use Rattle.std.specs.Prelude.{◌≡◌, ◌&&◌, eqb};
+ghost use Rattle.std.specs.Prelude.{◌≡◌, ◌&&◌, [], eqb, get_or};
 ghost use Rattle.rows.specs.Numbered.{row_at};
-ghost use Rattle.rows.specs.Cells.{cell_in, row_cell, param_cell, limit_cell, need_cell};
+ghost use Rattle.rows.specs.Cells.{row_cell, param_cell, limit_cell, need_cell};
 
 // How many rows and needs there are.
 pub const ROW_COUNT: u8 = 45;
@@ -291,23 +291,13 @@ static NEEDS: [[u8; 7]; 9] = [
     [10, 5, 0, 0, 0, 27, 1], // MEASUREMENT
 ];
 
-// Number f of row i of a table, 0 past its numbers and its rows.
-fn cell<const WIDTH: usize>(table: &[[u8; WIDTH]], i: u8, f: u8) -> u8
-    ensures { result ≡ cell_in table.now i f }
+// Number f of row i of a table, and none past its numbers and its rows.
+fn cell<T: Copy, const WIDTH: usize>(table: &[[T; WIDTH]], i: u8, f: u8, none: T) -> T
+    ensures { result ≡ get_or (get_or table.now i []) f none }
 {
     match table.get(i as usize) {
-        Some(row) => row.get(f as usize).copied().unwrap_or(0),
-        None => 0,
-    }
-}
-
-// Limit f of row p of a table, 0 past its limits and its rows.
-fn limit(table: &[[u64; 2]], p: u8, f: u8) -> u64
-    ensures { result ≡ cell_in table.now p f }
-{
-    match table.get(p as usize) {
-        Some(row) => row.get(f as usize).copied().unwrap_or(0),
-        None => 0,
+        Some(row) => row.get(f as usize).copied().unwrap_or(none),
+        None => none,
     }
 }
 
@@ -315,28 +305,28 @@ fn limit(table: &[[u64; 2]], p: u8, f: u8) -> u64
 pub fn row_cell(i: u8, f: u8) -> u8
     ensures { result ≡ row_cell i f }
 {
-    cell(&ROWS, i, f)
+    cell(&ROWS, i, f, 0)
 }
 
 // Number f of parameter p.
 pub fn param_cell(p: u8, f: u8) -> u8
     ensures { result ≡ param_cell p f }
 {
-    cell(&PARAMS, p, f)
+    cell(&PARAMS, p, f, 0)
 }
 
 // Limit f of parameter p.
 pub fn limit_cell(p: u8, f: u8) -> u64
     ensures { result ≡ limit_cell p f }
 {
-    limit(&LIMITS, p, f)
+    cell(&LIMITS, p, f, 0)
 }
 
 // Number f of need i.
 pub fn need_cell(i: u8, f: u8) -> u8
     ensures { result ≡ need_cell i f }
 {
-    cell(&NEEDS, i, f)
+    cell(&NEEDS, i, f, 0)
 }
 
 // Whether row i is that of the word w in the block b.

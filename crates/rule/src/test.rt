@@ -2,7 +2,7 @@
 ghost use Rattle.std.specs.Prelude.{◌≡◌, ◌+◌, leb};
 ghost use Rattle.tables.specs.Rule.{is_fraction, text_rule, inside_rule};
 
-// The words' codes: what an object is, and conversions.
+// The words' codes: what an object is, and conversions. The lent tables hold the numbers.
 pub const AXIS_PTS: u64 = 7;
 
 pub const MEASUREMENT: u64 = 10;

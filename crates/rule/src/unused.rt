@@ -19,7 +19,8 @@ pub fn has_zeros(t: &[u64], j: u8, i: u16, from: u8, many: u8) -> bool
     all_below(many as u16, |k| slot_of(t, j, i, k + first) == 0)
 }
 
-// Whether so many cells from a place on are zero; past the end there is none. All bits are gathered, with no test of each cell.
+// Whether so many cells from a place on are zero; past the end there is none. All bits are gathered, with no test of each cell,
+// by the cells' places, of which the clause speaks.
 fn are_zero(t: &[u64], from: usize, many: usize) -> bool
     requires { from + many < 2 ^ 64 }
     ensures { result ≡ all_below many (λ (k : ℕ). eqb (get_or t.now (from + k) 0) 0) }

@@ -5,7 +5,7 @@ ghost use Rattle.tables.specs.Form.{table_sections};
 
 use records::Section;
 
-// The sections.
+// The sections: numbers and no enum, since slot_of answers for any number, as its clause says.
 pub const HEAD: u8 = 0;
 
 pub const OBJECT: u8 = 1;

@@ -7,6 +7,7 @@ pub struct Cursor {
 }
 
 // A refusal: its number in the list of refusals, and the place in the text that it names.
+// A number and no enum: Cursor::tag and grammar's refuse take any number, as their clauses say.
 #[derive(Clone, Copy)]
 pub struct Refusal {
     pub no: u8,

@@ -22,7 +22,7 @@ fn is_open(seen: &[u8], i: u16) -> bool
     seen.get(i as usize).copied().unwrap_or(0) == 0
 }
 
-// Object i counts as judged.
+// Object i counts as judged. (With get_mut the proof didn't close: what it lends could be told only by the prover's own names.)
 fn mark(seen: &mut [u8], i: u16)
     ensures { seen.new ≡ set seen.old i 1 }
 {

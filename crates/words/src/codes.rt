@@ -1,4 +1,5 @@
 // The codes of the words that document 01 takes or skips. Keywords have one row of numbers, choices another.
+// Numbers and no enum: the records and the lent tables hold them, and C sees an object's.
 
 // Blocks that are taken.
 pub const PROJECT: u8 = 1;

@@ -72,8 +72,6 @@ module _ (u : List ℕ) (g : ℕ) where
       → u₂ ≡ puts_at u₁ group_section g 4 (p.cy ∷ p.cx ∷ p.cy ∷ p.walk ∷ []) → u₂ ≡ puts_at u group_section g 0 (standing_cells p.kind p.first p.place p.cx p.cy p.walk)
   standing-is p first u₁ u₂ h q r = r ∙ rw (q, h) (sym (puts-on u group_section g 0 (p.kind ∷ flag p.first ∷ p.place ∷ p.cx ∷ []) (p.cy ∷ p.cx ∷ p.cy ∷ p.walk ∷ [])))
 
-  module _ (e : Entry) (place : ℕ) (w : List ℕ) where
-
 pub ruleset decimals = (decimal-is, rules)
 
 pub ruleset limits = (limits-is, rules)

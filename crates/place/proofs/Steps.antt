@@ -75,8 +75,6 @@ square-fits a b f g = let k : a ≤ 65535 = omega arith in let l : b ≤ 65535 =
 
 pub ruleset ones = (bytes-of, start-low, end_low, square-fits, one-values, one-x, one-y, one-count-x, one-count-y, no-count-x, no-count-y, rules)
 
-module _ (g : Ground) (n : Need) (image : List ℕ) (s : Reached) (p : Part) where
-
 pub at_least : (a b : ℕ) → a ≤ a + b
 at_least a b = omega arith
 

@@ -81,8 +81,6 @@ pub ruleset references = (reference-none, reference-past, reference-is, rules)
 
 -- the sooner of two, by the branches of the code
 module _ (a b : Told) where
-  module _ (p : Refusal) (y : a ≡ Err p) where
-
 -- of three it is the same which two are first compared
 sooner_assoc : (a b c : Answer (Unit {0})) → sooner (sooner a b) c ≡ sooner a (sooner b c)
 sooner_assoc (given u) b c = refl

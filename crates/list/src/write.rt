@@ -58,8 +58,8 @@ pub fn write_raw(
     let enough = is_enough(t, lines);
     judge(x.len(), image.len(), base, t, enough, object, part, index)?;
     let g = group_of(object, part);
-    let answer = raw_wanted(t, g, value);
-    Ok(carry_out(t, image, raw, state, first, second, g, index, answer)?)
+    let wanted = raw_wanted(t, g, value);
+    Ok(carry_out(t, image, raw, state, first, second, g, index, wanted)?)
 }
 
 // Writes a physical value, given as a decimal in text, to an element.

@@ -9,7 +9,7 @@ use borrow.Author.Tests.{eq-eqb, ne_eqb, lt-ltb, le-ltb, ltb-true, ltb-false}
 use lib.Dec.{eqb, ltb}
 use lib.ListN.{length, get_or, drop, drop_of_length-le}
 use lib.Seq.{drop-cons}
-use Rattle.std.specs.Prelude.{Option, Some, None, Result, Ok, Err}
+use Rattle.std.specs.Prelude.{Option, Some, None, Result, Ok}
 use Rattle.text.specs.declared.cursor.Refusal.{Refusal}
 use Rattle.text.specs.Answer.{Answer, given, refused}
 use Rattle.text.specs.Bytes.{same_part, spelt}
@@ -79,8 +79,6 @@ module _ (x : List ℕ) (v : View) (r : Row) (i a e : ℕ) (pa : a ≡ v.slots r
 
 pub ruleset references = (reference-none, reference-past, reference-is, rules)
 
--- the sooner of two, by the branches of the code
-module _ (a b : Told) where
 -- of three it is the same which two are first compared
 sooner_assoc : (a b c : Answer (Unit {0})) → sooner (sooner a b) c ≡ sooner a (sooner b c)
 sooner_assoc (given u) b c = refl

@@ -3,7 +3,7 @@ use Prim.Native.Nat.{ℕ, zero, suc, ◌+◌}
 use mathlib.Core.Path.{◌≡◌, refl, sym, ◌∙◌, ap}
 use mathlib.Core.List.{List, [], ◌∷◌}
 use borrow.Author.Rules.{rules}
-use lib.ListN.{length, get_or, replicate}
+use lib.ListN.{length, get_or, replicate, get_or-map}
 use Rattle.std.specs.Prelude.{map}
 use Rattle.rows.specs.Row.{Row}
 use Rattle.rows.specs.Rows.{rows, needed}
@@ -58,22 +58,46 @@ fields g d f none [] i = sym none
 fields g d f none (x ∷ xs) zero = refl
 fields g d f none (x ∷ xs) (suc i) = fields g d f none xs i
 
+-- the numbers of row i
+rows_are : (n : ℕ) (rs : List Row) (i : ℕ) → get_or (rows_from n rs) i (replicate 10 0) ≡ row_numbers (get_or rs i no_row) (get_or (starts_from n rs) i 0)
+rows_are n [] i = refl
+rows_are n (r ∷ rs) zero = refl
+rows_are n (r ∷ rs) (suc i) = rows_are (n + length r.params) rs i
+
+-- r is a row of numbers
+module _ (i f : ℕ) (r : List ℕ) where
+  pub row_number : r ≡ get_or row_cells i (replicate 10 0) → get_or r f 0 ≡ row_cell i f
+  unfolding row_cells row_at first_param
+  row_number e = ap (λ l. get_or l f 0) (e ∙ rows_are 1 rows i)
+
+  pub param-number : r ≡ get_or param_cells i (replicate 4 0) → get_or r f 0 ≡ param_cell i f
+  unfolding param_cells param_at
+  param-number e = ap (λ l. get_or l f 0) (e ∙ get_or-map param_numbers all_params i no_param)
+
+  pub limit-number : r ≡ get_or limit_cells i (replicate 2 0) → get_or r f 0 ≡ limit_cell i f
+  unfolding limit_cells param_at
+  limit-number e = ap (λ l. get_or l f 0) (e ∙ get_or-map limit_numbers all_params i no_param)
+
+  pub need-number : r ≡ get_or need_cells i (replicate 7 0) → get_or r f 0 ≡ need_cell i f
+  unfolding need_cells need_at
+  need-number e = ap (λ l. get_or l f 0) (e ∙ get_or-map need_numbers needed i no_need)
+
 -- n is what the code looked up
 module _ (i f n : ℕ) where
-  pub row_number : n ≡ cell_in ROWS i f → n ≡ row_cell i f
+  pub row_cell_is : n ≡ cell_in ROWS i f → n ≡ row_cell i f
   unfolding row_cells row_at first_param
-  row_number e = e ∙ ap (λ t. cell_in t i f) rows-are ∙ row_fields 1 rows i f
+  row_cell_is e = e ∙ ap (λ t. cell_in t i f) rows-are ∙ row_fields 1 rows i f
 
-  pub param-number : n ≡ cell_in PARAMS i f → n ≡ param_cell i f
+  pub param-cell-is : n ≡ cell_in PARAMS i f → n ≡ param_cell i f
   unfolding param_cells param_at
-  param-number e = e ∙ ap (λ t. cell_in t i f) params-are ∙ fields param_numbers no_param f (zeros 4 f) all_params i
+  param-cell-is e = e ∙ ap (λ t. cell_in t i f) params-are ∙ fields param_numbers no_param f (zeros 4 f) all_params i
 
-  pub limit-number : n ≡ cell_in LIMITS i f → n ≡ limit_cell i f
+  pub limit-cell-is : n ≡ cell_in LIMITS i f → n ≡ limit_cell i f
   unfolding limit_cells param_at
-  limit-number e = e ∙ ap (λ t. cell_in t i f) limits-are ∙ fields limit_numbers no_param f (zeros 2 f) all_params i
+  limit-cell-is e = e ∙ ap (λ t. cell_in t i f) limits-are ∙ fields limit_numbers no_param f (zeros 2 f) all_params i
 
-  pub need-number : n ≡ cell_in NEEDS i f → n ≡ need_cell i f
+  pub need-cell-is : n ≡ cell_in NEEDS i f → n ≡ need_cell i f
   unfolding need_cells need_at
-  need-number e = e ∙ ap (λ t. cell_in t i f) needs-are ∙ fields need_numbers no_need f (zeros 7 f) needed i
+  need-cell-is e = e ∙ ap (λ t. cell_in t i f) needs-are ∙ fields need_numbers no_need f (zeros 7 f) needed i
 
-pub ruleset tables = (row_number, param-number, limit-number, need-number, rules)
+pub ruleset tables = (row_cell_is, param-cell-is, limit-cell-is, need-cell-is, rules)

@@ -15,7 +15,7 @@ carry_out-requires c = write-room _ _ _ _ _ _ 0 _ _ c.in_ok-judge.ensures refl c
 pub returns-in_err-carry_out : goal.returns-in_err-carry_out
 returns-in_err-carry_out c =
     let p = err_from_is_err_and c.from_residual-in_err-carry_out.result c.from_residual-in_err-carry_out.ensures.1 in
-    rw (p.1, p.2) (write-raw-is _ _ _ _ _ _ _ _ 0 _ c.in_ok-judge.ensures refl c.is_enough-enough.ensures c.room_of-lines.ensures _ c.group_of-g.ensures _ _ _ _ (to_z-of_z c.ranges.value) c.raw_wanted-answer.ensures (not_carried _ _ _ _ _ c.carry_out.ensures c.in_err-carry_out.field-0.0 c.in_err-carry_out.was))
+    rw (p.1, p.2) (write-raw-is _ _ _ _ _ _ _ _ 0 _ c.in_ok-judge.ensures refl c.is_enough-enough.ensures c.room_of-lines.ensures _ c.group_of-g.ensures _ _ _ _ (to_z-of_z c.ranges.value) c.raw_wanted-wanted.ensures (not_carried _ _ _ _ _ c.carry_out.ensures c.in_err-carry_out.field-0.0 c.in_err-carry_out.was))
 
 pub returns : goal.returns
-returns c = write-raw-is _ _ _ _ _ _ _ _ 0 _ c.in_ok-judge.ensures refl c.is_enough-enough.ensures c.room_of-lines.ensures _ c.group_of-g.ensures _ _ _ _ (to_z-of_z c.ranges.value) c.raw_wanted-answer.ensures (carried _ _ _ _ _ c.carry_out.ensures c.in_ok-carry_out.was)
+returns c = write-raw-is _ _ _ _ _ _ _ _ 0 _ c.in_ok-judge.ensures refl c.is_enough-enough.ensures c.room_of-lines.ensures _ c.group_of-g.ensures _ _ _ _ (to_z-of_z c.ranges.value) c.raw_wanted-wanted.ensures (carried _ _ _ _ _ c.carry_out.ensures c.in_ok-carry_out.was)

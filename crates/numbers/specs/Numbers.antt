@@ -47,9 +47,8 @@ load_call n t w = record { number = n; tables = t; work = w }
 unfoldable pub load_told : Loaded → LoadCall
 load_told o = load_call (load_number o.answer) o.tables o.work
 
--- ---- obarsivel_find
+-- ---- a refusal as a number
 
--- "Answers its number .., -1 if none bears it, or -20, -22" (the search tells a number as one more, and none as 0)
 -- an answer with its refusal told by number
 abbrev pub by_number : {A : Type 0} → Result A CallRefusal → Result A ℕ
 by_number (Ok a) = Ok a
@@ -69,6 +68,9 @@ abbrev pub told_written : Result ℕ ℕ → Answer ℕ
 told_written (Ok n) = given n
 told_written (Err n) = refused n
 
+-- ---- obarsivel_find
+
+-- "Answers its number .., -1 if none bears it, or -20, -22" (the search tells a number as one more, and none as 0)
 abbrev pub find_number : Answer ℕ → ℤ
 find_number (given zero) = negsuc 0
 find_number (given (suc i)) = pos i

@@ -20,7 +20,8 @@ pub fn get(t: &[u64], i: usize) -> u64
     t.get(i).copied().unwrap_or(0)
 }
 
-// Stores in the cell at a place, and nothing past the end. The test says as much as `if let Some(c) = t.get_mut(i) { *c = v; }`.
+// Stores in the cell at a place, and nothing past the end. (With get_mut the proof didn't close: what it lends can be told only by the
+// prover's own names.)
 pub fn set(t: &mut [u64], i: usize, v: u64)
     ensures { t.new ≡ set t.old i v }
 {

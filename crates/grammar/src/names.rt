@@ -9,6 +9,7 @@ use text::bytes::{byte_at, is_like, one_before};
 
 // The first record of section j whose name is the bytes from a up to e, compared from the last byte backward.
 // A record's first two cells, at and at + 1, are its name's first byte and the place past it (OWN_NAME, OWN_NAME_PAST).
+// No `for`: the search is a loop that is left by label and yields the place by break, the form that docs/CLAIMS.md names for rule 9.11.
 pub fn find(x: &[u8], t: &[u64], j: u8, a: usize, e: usize) -> Option<u16>
     ensures { found_at result ≡ find x.now (view_in t.now) j a e }
 {
@@ -16,19 +17,23 @@ pub fn find(x: &[u8], t: &[u64], j: u8, a: usize, e: usize) -> Option<u16>
         return None;
     }
     let c = section_of(j);
+    let count = records::count(t, c);
     let n = e - a;
     let first = byte_at(x, a);
     let last = byte_at(x, one_before(e));
+    let mut i: u16 = 0;
     let mut at = (c.base as usize) + 1;
-    for i in 0..records::count(t, c) {
+    'records: loop {
+        if count <= i {
+            break None;
+        }
         let from = get(t, at) as usize;
         let to = get(t, at + 1) as usize;
         if is_like(x, from, to, n, last) {
-            // Backward, and given up where the first byte or a last one differs, before the rest is looked at: no iterator says it plainer.
             let mut k = n;
             loop {
                 if k == 0 {
-                    return Some(i);
+                    break 'records Some(i);
                 }
                 if byte_at(x, from) != first {
                     break;
@@ -40,6 +45,6 @@ pub fn find(x: &[u8], t: &[u64], j: u8, a: usize, e: usize) -> Option<u16>
             }
         }
         at += c.width as usize;
+        i += 1;
     }
-    None
 }

@@ -1,16 +1,14 @@
--- The search for a name: what its loop keeps, what a turn of it does, and what is seen of a name.
+-- The search for a name: what its two loops keep, and what a turn of each does.
 use Prim.Native.Nat.{ℕ, suc, ◌+◌, ◌-◌, ◌≤◌, ◌<◌}
-use mathlib.Core.Path.{◌≡◌, ◌∙◌, ap, refl, sym}
+use mathlib.Core.Path.{◌≡◌, ◌∙◌, ap}
 use mathlib.Core.List.{List}
-use mathlib.Core.Bool.{Bool, true, false, cond, not, ◌&&◌, true≢false}
-use borrow.Author.Tests.{eqb-false}
-use lib.Dec.{eqb}
+use mathlib.Core.Bool.{Bool, true, false, cond}
 use native.Mathlib.Omega.{arith}
 use borrow.Author.Rules.{rules}
 use lib.ListN.{length}
 use Rattle.number.specs.Answer.{Answer, given, refused}
 use Rattle.text.specs.Bytes.{byte, same_part}
-use Rattle.text.proofs.LikeLaws.{is_like, compare-start, compare-not, compare-first}
+use Rattle.text.proofs.LikeLaws.{is_like, Comparing, compare-start, compare-not, compare-on, compare-other}
 use Rattle.tables.specs.Form.{object_section, Tables, tables_in}
 use Rattle.look.specs.Calls.{Lent, search_from, searched}
 use Rattle.look.specs.Steps.{checked_no}
@@ -44,18 +42,22 @@ module _ (x : List ℕ) (v : Tables) (w : List ℕ) where
 
 -- the name sought is all of w, of n bytes
 module _ (x : List ℕ) (f u : ℕ) (w : List ℕ) (m b : ℕ) (pm : m ≡ length w - 1) (pb : b ≡ byte w m) (r : Bool) (pr : r ≡ is_like x f u (length w) b) where
+  pub match-start : r ≡ true → Comparing x f u w 0 (length w) (length w) (length w)
+  match-start = compare-start x f u w 0 (length w) (length w) m b (omega arith) (omega arith) pm pb r pr
+
   pub match-not : r ≡ false → false ≡ same_part x f u w 0 (length w)
   match-not = compare-not x f u w 0 (length w) (length w) m b (omega arith) (omega arith) pm pb r pr
 
-  -- the first bytes differ
-  pub match-first : (c d : ℕ) → c ≡ byte x f → d ≡ byte w 0 → r ≡ true → (not (eqb (length w) 0) && not (eqb c d)) ≡ true → false ≡ same_part x f u w 0 (length w)
-  match-first c d pc pd t h = by-tests (eqb (length w) 0) (eqb c d) refl refl h where
-    by-tests : (a e : Bool) → eqb (length w) 0 ≡ a → eqb c d ≡ e → (not a && not e) ≡ true → false ≡ same_part x f u w 0 (length w)
-    by-tests true e p q k = absurd (true≢false (sym k))
-    by-tests false true p q k = absurd (true≢false (sym k))
-    by-tests false false p q k =
-        compare-first x f u w 0 (length w) (length w) (length w) (compare-start x f u w 0 (length w) (length w) m b (omega arith) (omega arith) pm pb r pr t)
-        (eqb-false (length w) 0 p) c d pc pd (eqb-false c d q)
+-- a turn of the loop over the bytes
+module _ (x : List ℕ) (f u : ℕ) (w : List ℕ) (n k : ℕ) (q : Comparing x f u w 0 (length w) n k) (l : k ≡ 0 → ⊥) (c d : ℕ) (pc : c ≡ byte x (f + (k - 1))) (pd : d ≡ byte w (k - 1)) where
+  at_last : d ≡ byte w (0 + (k - 1))
+  at_last = let z : 0 + (k - 1) ≡ k - 1 = omega arith in pd ∙ rw z
+
+  pub match-on : c ≡ d → Comparing x f u w 0 (length w) n (k - 1)
+  match-on = compare-on x f u w 0 (length w) n k q l c d pc at_last
+
+  pub match-other : (c ≡ d → ⊥) → false ≡ same_part x f u w 0 (length w)
+  match-other = compare-other x f u w 0 (length w) n k q l c d pc at_last
 
 pub ruleset seeks = (seek-start, seek-end, rules)
 

@@ -53,7 +53,9 @@ fn refer(x: &[u8], t: &[u64], r: Row, a: usize, e: usize) -> Result<(), Refusal>
     if is_free(x, r.free, a, e) {
         return Ok(());
     }
-    let i = find(x, t, r.target, a, e).ok_or(Refusal { no: 7, place: a })?;
+    let Some(i) = find(x, t, r.target, a, e) else {
+        return Err(Refusal { no: 7, place: a });
+    };
     if (r.class == 0) | (slot_of(t, r.target, i, BLOCK_CODE) == (r.class as u64)) {
         return Ok(());
     }

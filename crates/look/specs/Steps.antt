@@ -1,12 +1,10 @@
 -- What functions between the calls answer and leave: what proofs of code go by. No definition of a call rests on it.
-use Rattle.std.specs.Prelude.{ℕ, zero, suc, ◌+◌, ◌-◌, min, List, Bool, cond, ◌||◌, ℤ, pos, get_or, set}
-use Rattle.convert.specs.Fraction.{Value, fraction_of}
+use Rattle.std.specs.Prelude.{ℕ, zero, suc, ◌+◌, ◌-◌, min, List, Bool, cond, ◌||◌, pos, get_or, set}
 use Rattle.number.specs.Answer.{Answer, given, refused}
 use Rattle.tables.specs.Form.{method_section, tables_in, table_cell, method_of}
 use Rattle.look.specs.declared.element.Line.{Line}
 use Rattle.look.specs.declared.meaning.Meaning.{Meaning}
-use Rattle.look.specs.declared.meaning.Meaning.TheVariants as by
-use Rattle.look.specs.Element.{past_records, text_at, line_of, touched}
+use Rattle.look.specs.Element.{past_records, line_of, touched}
 use Rattle.look.specs.Calls.{Lent, checked, Kept, asks_by, is_tab_verb, writable, judged_element}
 
 -- ---- tests that are made one after the other
@@ -28,16 +26,13 @@ abbrev pub element_no : List ℕ → Lent → Bool → ℕ → ℕ → ℕ → �
 element_no t l enough o p i = refusal_of (judged_element t l enough o p i (given (tt {0})))
 
 -- ---- what is read once for a group
--- what group g's raw numbers mean by: its verbal table's number, or its coefficients
+-- what group g's raw numbers mean by: its verbal table and that table's number, or its coefficients
 abbrev pub meaning_of : List ℕ → ℕ → Meaning
-meaning_of t g =
-    cond (is_tab_verb (tables_in t) g) (by.Texts (min ((tables_in t).slots method_section (method_of (tables_in t) g - 1) table_cell - 1) past_records))
-    (by.Fraction (asks_by (tables_in t) g))
-
--- what a raw number means by that
-abbrev pub meant : List ℕ → Meaning → ℤ → Value
-meant t (by.Texts s) z = text_at (tables_in t) s z
-meant t (by.Fraction k) z = fraction_of k z
+meaning_of t g = record {
+  verbal = is_tab_verb (tables_in t) g;
+  table = min ((tables_in t).slots method_section (method_of (tables_in t) g - 1) table_cell - 1) past_records;
+  k = asks_by (tables_in t) g;
+}
 
 -- ---- a line at a time
 -- the lines that are worked out afresh: all of them, or those of elements with one of the bytes from lo up to hi

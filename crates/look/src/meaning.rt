@@ -1,10 +1,11 @@
 // What raw numbers mean, and the line of an element.
-ghost use Rattle.std.specs.Prelude.{◌≡◌, ℕ};
+ghost use Rattle.std.specs.Prelude.{◌≡◌, cond, ℕ};
+ghost use Rattle.convert.specs.Fraction.{fraction_of};
 ghost use Rattle.convert.specs.Told.{held};
 ghost use Rattle.tables.specs.Form.{tables_in};
 ghost use Rattle.tables.specs.Group.{storage_of, IsReachable};
-ghost use Rattle.look.specs.Element.{means, line_of};
-ghost use Rattle.look.specs.Steps.{meaning_of, meant};
+ghost use Rattle.look.specs.Element.{text_at, means, line_of};
+ghost use Rattle.look.specs.Steps.{meaning_of};
 
 use crate::element::{Line, raw_by, record_before, text_at};
 use crate::method::{asks_by, is_tab_verb};
@@ -14,11 +15,13 @@ use fraction::fraction::fraction_of;
 use tables::form::{METHOD, slot_of};
 use tables::group::{Storage, method_of};
 
-// What a group's raw numbers mean by: the verbal table with this number, or coefficients.
+// What a group's raw numbers mean by: a verbal table with its number, or coefficients.
+// No enum: meaning_of answers the table's number and the coefficients for every group, as its clause says.
 #[derive(Clone, Copy)]
-pub enum Meaning {
-    Texts(u16),
-    Fraction(Coefficients),
+pub struct Meaning {
+    pub verbal: bool,
+    pub table: u16,
+    pub k: Coefficients,
 }
 
 // Where a method holds its verbal table.
@@ -28,21 +31,22 @@ const VERBAL: u16 = 9;
 pub fn meaning_of(t: &[u64], g: u16) -> Meaning
     ensures { result ≡ meaning_of t.now g }
 {
-    if is_tab_verb(t, g) {
-        let s = slot_of(t, METHOD, record_before(method_of(t, g)), VERBAL);
-        return Meaning::Texts(record_before(s));
+    let s = slot_of(t, METHOD, record_before(method_of(t, g)), VERBAL);
+    Meaning {
+        verbal: is_tab_verb(t, g),
+        table: record_before(s),
+        k: asks_by(t, g),
     }
-    Meaning::Fraction(asks_by(t, g))
 }
 
 // What a raw number means by a verbal table or by coefficients.
 fn means_by(t: &[u64], m: Meaning, raw: i64) -> Physical
-    ensures { result ≡ held (meant t.now m raw) }
+    ensures { result ≡ held (cond m.verbal (text_at (tables_in t.now) m.table raw) (fraction_of m.k raw)) }
 {
-    match m {
-        Meaning::Texts(s) => text_at(t, s, raw),
-        Meaning::Fraction(k) => fraction_of(k, raw),
+    if m.verbal {
+        return text_at(t, m.table, raw);
     }
+    fraction_of(m.k, raw)
 }
 
 // What a raw number of a group means.

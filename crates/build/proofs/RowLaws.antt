@@ -2,6 +2,12 @@
 use Prim.Native.Nat.{ℕ, zero, suc, ◌+◌, ◌-◌, ◌≤◌, ◌<◌}
 use mathlib.Core.Path.{◌≡◌, refl, sym, ◌∙◌, ap}
 use mathlib.Core.List.{List, [], ◌∷◌, ◌++◌}
+use Rattle.std.specs.Prelude.{Bool, min, leb, ltb}
+use mathlib.Core.Bool.{true, false}
+use Rattle.std.proofs.Math.Bool.{and-false}
+use Rattle.std.proofs.lemmas.Bool.{le-ltb, leb-true, leb-false}
+use Rattle.records.specs.declared.Section.{Section}
+use Rattle.records.specs.Records.{width_of}
 use native.Mathlib.Omega.{arith}
 use native.Mathlib.Nat.{add-zero}
 use native.Mathlib.Numerals.{add-one}
@@ -39,6 +45,32 @@ unfolding rows_in
 length-rows t j [] = refl
 length-rows t j (r ∷ rs) = length-rows (row_in t j r) j rs ∙ length-row t j r
 
+-- ---- past a record's slots nothing is stored, so that one slot there is as good as another
+
+past-width : (t : List ℕ) (c : Section) (i k v : ℕ) → c.width ≤ k → put_in t c i k v ≡ t
+unfolding put_in
+past-width t c i k v h = rw (le-ltb k c.width h, and-false (ltb i (count_in t c))) refl
+
+modest : (j : ℕ) → width_of table_sections j ≤ 65535
+unfolding table_sections
+modest zero = omega arith
+modest (suc zero) = omega arith
+modest (suc (suc zero)) = omega arith
+modest (suc (suc (suc zero))) = omega arith
+modest (suc (suc (suc (suc zero)))) = omega arith
+modest (suc (suc (suc (suc (suc zero))))) = omega arith
+modest (suc (suc (suc (suc (suc (suc j)))))) = omega arith
+
+put-past : (u : List ℕ) (j i k m v : ℕ) → m ≡ min k 65535 → put_in u (section_in table_sections j) i m v ≡ put_in u (section_in table_sections j) i k v
+put-past u j i k m v e = go (leb k 65535) refl
+  where
+    go : (b : Bool) → leb k 65535 ≡ b → put_in u (section_in table_sections j) i m v ≡ put_in u (section_in table_sections j) i k v
+    go true h = let d : m ≡ k = omega (arith, e, leb-true k 65535 h) in rw d refl
+    go false h =
+        let w : width_of table_sections j ≤ 65535 = modest j in
+        let o : 65535 < k = leb-false k 65535 h in
+        past-width u (section_in table_sections j) i m v (omega (arith, e, w, o)) ∙ sym (past-width u (section_in table_sections j) i k v (omega (arith, w, o)))
+
 -- the first n numbers of vs are put
 pub record Putting (t : List ℕ) (j i k : ℕ) (vs : List ℕ) (n : ℕ) (u : List ℕ) : Type 0 where
   pub long : length u ≡ length t
@@ -49,13 +81,16 @@ module _ (t : List ℕ) (j i k : ℕ) (vs : List ℕ) where
   unfolding puts_at
   putting-start = record { long = refl; is = refl }
 
-  pub putting-on : (n : ℕ) (u w : List ℕ) → Putting t j i k vs n u → n < length vs → w ≡ put_in u (section_in table_sections j) i (k + n) (get_or vs n 0) → Putting t j i k vs (n + 1) w
+  putting-next : (n : ℕ) (u w : List ℕ) → Putting t j i k vs n u → n < length vs → w ≡ put_in u (section_in table_sections j) i (k + n) (get_or vs n 0) → Putting t j i k vs (n + 1) w
   unfolding puts_at
-  putting-on n u w z h q =
+  putting-next n u w z h q =
       let l : length (take n vs) ≡ n = length-take-le n vs (omega arith) in
       let e : take (n + 1) vs ≡ take n vs ++ (get_or vs n 0 ∷ []) = rw (add-one n) (take-suc vs n 0 h) in
       let a : puts_at t j i k (take (n + 1) vs) ≡ put_in (puts_at t j i k (take n vs)) (section_in table_sections j) i (k + n) (get_or vs n 0) = rw (e, puts-on t j i k (take n vs) (get_or vs n 0 ∷ []), l) in
       record { long = ap length q ∙ length-put u (section_in table_sections j) i (k + n) (get_or vs n 0) ∙ z.long; is = q ∙ rw z.is (sym a) }
+
+  pub putting-on : (n m : ℕ) (u w : List ℕ) → Putting t j i k vs n u → n < length vs → m ≡ min (k + n) 65535 → w ≡ put_in u (section_in table_sections j) i m (get_or vs n 0) → Putting t j i k vs (n + 1) w
+  putting-on n m u w z h e q = putting-next n u w z h (q ∙ put-past u j i (k + n) m (get_or vs n 0) e)
 
   pub putting-end : (n : ℕ) (u : List ℕ) → Putting t j i k vs n u → length vs ≤ n → u ≡ puts_at t j i k vs
   putting-end n u z h = z.is ∙ ap (puts_at t j i k) (take_all n vs h)

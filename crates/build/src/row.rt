@@ -1,10 +1,13 @@
 // Rows of numbers put into the tables.
-ghost use Rattle.std.specs.Prelude.{◌≡◌, ◌<◌, ◌^◌, length};
+ghost use Rattle.std.specs.Prelude.{◌≡◌};
 ghost use Rattle.records.specs.Cells.{section_in, count_in};
 ghost use Rattle.tables.specs.Form.{table_sections};
 ghost use Rattle.build.specs.Row.{puts_at, opened, row_in};
 
 use tables::form::{add_record, count_of, put_slot};
+
+// A slot past those of every record.
+const PAST_SLOTS: usize = 65535;
 
 // A record more in section j: its number.
 pub fn open_row(u: &mut [u64], j: u8) -> u16
@@ -15,19 +18,18 @@ pub fn open_row(u: &mut [u64], j: u8) -> u16
     i
 }
 
-// Numbers into record i of section j from slot k on.
+// Numbers into record i of section j from slot k on; what is past a record's slots is stored nowhere.
 pub fn put_numbers(u: &mut [u64], j: u8, i: u16, k: u8, numbers: &[u64])
-    requires { length numbers.now < 2 ^ 8 }
     ensures { u.new ≡ puts_at u.old j i k numbers.now }
 {
     for n in 0..numbers.len() {
-        put_slot(u, j, i, (k as u16) + (n as u16), numbers[n]);
+        let slot = ((k as usize) + n).min(PAST_SLOTS) as u16;
+        put_slot(u, j, i, slot, numbers[n]);
     }
 }
 
 // A record more in section j, with these numbers.
 pub fn put_row(u: &mut [u64], j: u8, numbers: &[u64])
-    requires { length numbers.now < 2 ^ 8 }
     ensures { u.new ≡ row_in u.old j numbers.now }
 {
     let i = open_row(u, j);

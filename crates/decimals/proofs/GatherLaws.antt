@@ -1,13 +1,13 @@
 -- Digits of any number: one more of them, and what the loop over them keeps.
-use Prim.Native.Nat.{ℕ, zero, suc, ◌+◌, ◌*◌, ◌%◌, ◌^◌, ◌<◌, ◌≤◌}
+use Prim.Native.Nat.{ℕ, zero, suc, ◌+◌, ◌*◌, ◌%◌, ◌^◌, ◌<◌, ◌≤◌, max}
 use native.Mathlib.Numerals.{add-one}
 use native.Mathlib.Omega.{arith}
 use mathlib.Core.Path.{◌≡◌, refl, sym, ◌∙◌, ap, subst}
 use mathlib.Core.List.{List, [], ◌∷◌}
-use mathlib.Core.Bool.{true}
-use borrow.Author.Tests.{ltb-true}
+use mathlib.Core.Bool.{Bool, true, false}
+use borrow.Author.Tests.{ltb-true, leb-true, leb-false}
 use borrow.Author.Rules.{rules}
-use lib.Dec.{ltb}
+use lib.Dec.{ltb, leb}
 use lib.ListN.{length, get_or}
 use mir.Syntax.{w64}
 use mir.Val.{Fits}
@@ -93,8 +93,16 @@ module _ (s : List ℕ) (at : ℕ) where
           few = q.few;
         }
 
-    pub gather-end : i ≤ length s → length s ≤ i → KeptDigits s at n (record { end = length s; part = p })
-    gather-end g h = let e : i ≡ length s = omega arith in rw (← e) (gather-ends (lead-end s i h))
+    pub gather-end : (m : ℕ) → (at ≤ length s → i ≤ length s) → length s ≤ i → m ≡ max at (length s) → KeptDigits s at n (record { end = m; part = p })
+    gather-end m near h e = rw (here (leb at (length s)) refl) (gather-ends (lead-end s i h))
+      where
+        here : (b : Bool) → leb at (length s) ≡ b → m ≡ i
+        here true t = omega (arith, e, h, leb-true at (length s) t, near (leb-true at (length s) t))
+        here false t =
+            let o : length s < at = leb-false at (length s) t in
+            let z : leading (left s at) ≡ [] = lead-end s at (omega (arith, o)) in
+            let y : leading (left s i) ≡ [] = lead-end s i h in
+            omega (arith, e, o, q.place, ap length z, ap length y)
 
     module _ (d : ℕ) (e : d ≡ digit_of (get_or s i 0)) (h : i < length s) where
       pub gather-stop : 10 ≤ d → KeptDigits s at n (record { end = i; part = p })

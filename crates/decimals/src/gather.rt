@@ -1,5 +1,5 @@
 // Digits of any number: those that count, ten at most, and how many zeros follow them.
-ghost use Rattle.std.specs.Prelude.{◌≡◌, ◌≤◌, ◌<◌, ◌+◌, ◌*◌, ◌^◌, length};
+ghost use Rattle.std.specs.Prelude.{◌≡◌, ◌≤◌, ◌<◌, ◌+◌, ◌*◌, ◌^◌};
 ghost use Rattle.number.specs.Decimal.{most_whole};
 ghost use Rattle.decimals.specs.Inner.{Full, Adds, Gathers};
 
@@ -39,7 +39,7 @@ fn added(p: Part, d: u8) -> Result<Part, NoForm>
 
 // The digits from a place on, after those that make a number.
 pub fn gather(s: &[u8], at: usize, before: Part) -> Result<Gathered, NoForm>
-    requires { (before.m ≤ most_whole) × Full before × (before.z ≤ at) × (at ≤ length s.now) }
+    requires { (before.m ≤ most_whole) × Full before × (before.z ≤ at) }
     ensures { Gathers s.now at (before.m * 10 ^ before.z) result }
 {
     let mut part = before;
@@ -50,5 +50,8 @@ pub fn gather(s: &[u8], at: usize, before: Part) -> Result<Gathered, NoForm>
         }
         part = added(part, d)?;
     }
-    Ok(Gathered { end: s.len(), part })
+    Ok(Gathered {
+        end: at.max(s.len()),
+        part,
+    })
 }

@@ -16,4 +16,4 @@ pub loop-i-preserved : goal.loop-i-preserved
 loop-i-preserved c = gather-on _ _ _ _ _ c.loop-i.invariant _ c.digit_of-d.ensures c.loop-i-test.true c.if-d-ge10.false _ c.in_ok-part.ensures
 
 pub returns : goal.returns
-returns c = gather-end _ _ _ _ _ c.loop-i.invariant (omega arith) c.loop-i-test.false
+returns c = gather-end _ _ _ _ _ c.loop-i.invariant _ (λ h. omega (arith, h)) c.loop-i-test.false c.max.ensures

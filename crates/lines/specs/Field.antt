@@ -1,5 +1,5 @@
 -- A text's lines, and a line's fields, parted by tabs.
-use Rattle.std.specs.Prelude.{ℕ, zero, suc, ◌+◌, List, [], ◌∷◌, cond, length, drop, eqb, ltb}
+use Rattle.std.specs.Prelude.{ℕ, Bool, zero, suc, ◌+◌, List, [], ◌∷◌, cond, length, drop, eqb, ltb}
 
 -- how many bytes stand before the first byte c
 unfoldable pub before : ℕ → List ℕ → ℕ
@@ -10,7 +10,11 @@ before c (b ∷ bs) = cond (eqb b c) 0 (suc (before c bs))
 unfoldable pub place_from : ℕ → List ℕ → ℕ → ℕ
 place_from c s from = cond (ltb from (length s)) (from + before c (drop from s)) (length s)
 
--- "lines end with LF": where the line that a place stands in ends
+-- "lines end with LF"
+abbrev pub ends_line : ℕ → Bool
+ends_line b = eqb b 10
+
+-- where the line that a place stands in ends
 unfoldable pub line_end : List ℕ → ℕ → ℕ
 line_end s from = place_from 10 s from
 

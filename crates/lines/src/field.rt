@@ -1,6 +1,6 @@
 // A text's lines, and a line's fields, parted by tabs.
-ghost use Rattle.std.specs.Prelude.{◌≡◌, ◌≤◌, length, drop};
-ghost use Rattle.lines.specs.Field.{place_from, line_end, field_count, field_of, up_to_tab};
+ghost use Rattle.std.specs.Prelude.{◌≡◌, ◌≤◌, length, drop, take};
+ghost use Rattle.lines.specs.Field.{ends_line, place_from, line_end, field_count, field_of, up_to_tab};
 
 // The byte that parts fields, and the byte that ends a line.
 const TAB: u8 = b'\t';
@@ -19,11 +19,25 @@ fn place_from(s: &[u8], from: usize, b: u8) -> usize
     s.len()
 }
 
+// Whether a byte ends a line.
+pub fn ends_line(b: &u8) -> bool
+    ensures { result ≡ ends_line b.now }
+{
+    *b == LF
+}
+
 // Where the line that a place stands in ends: its LF, or the length.
 pub fn line_end(s: &[u8], from: usize) -> usize
     ensures { result ≡ line_end s.now from }
 {
     place_from(s, from, LF)
+}
+
+// A line without its line end.
+pub fn without_end(line: &[u8]) -> &[u8]
+    ensures { result.now ≡ take (line_end line.now 0) line.now }
+{
+    &line[..line_end(line, 0)]
 }
 
 // How many fields a line has.

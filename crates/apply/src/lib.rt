@@ -8,9 +8,9 @@ use console::message::{error_about, say_refusal};
 use console::sizes::TEXT_ROOM;
 use files::file::read_file;
 use files::replace::{Edits, keep};
-use lines::field::{field_count, field_of};
+use lines::field::{ends_line, field_count, field_of, without_end};
 use printing::printed::print_listing;
-use requests::made::kept_list;
+use requests::made::make_kept;
 use requests::requested::{Way, Wrong, element_named, way_of, write_one};
 use std::io;
 
@@ -78,16 +78,6 @@ fn complain_of_line(rt: &(impl Print + Errors), n: usize, wrong: Wrong<'_>) -> i
         wrong.word(),
     );
     Ok(())
-}
-
-// Whether a byte ends a line.
-fn ends_line(b: &u8) -> bool {
-    *b == b'\n'
-}
-
-// A line without its line end.
-fn without_end(line: &[u8]) -> &[u8] {
-    line.strip_suffix(b"\n").unwrap_or(line)
 }
 
 // Looks whether every line is a request; what is wrong with the first that is none is said.
@@ -178,7 +168,8 @@ fn print_kept(
 
 // Carries out the requests, which are all well formed, on the list that is made of the image, and goes on with their answers.
 fn apply_requests(rt: &(impl Print + Edits), d: Loaded<'_>, image: &mut [u8], q: &[u8]) -> Ending {
-    let mut kept = kept_list(rt, d, image)?;
+    let mut kept = Columns::zeros();
+    make_kept(rt, d, image, &mut kept)?;
     let mut noted = [Answer::NotCarriedOut; ANSWERS];
     let Some(answers) = noted.get_mut(..q.split_inclusive(ends_line).count()) else {
         return Err(error_about(

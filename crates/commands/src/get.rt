@@ -1,13 +1,13 @@
 // The command `get`: one element's line, and its fraction rounded to six places.
 use crate::element::element_typed;
 use console::ending::{Ending, Errors, Stop};
-use console::kept::{Element, Loaded};
+use console::kept::{Columns, Element, Loaded};
 use console::message::refused;
 use convert::fraction::{Physical, Shown};
 use look::read::read;
 use places::six::six_places;
 use printing::printed::print_line;
-use requests::made::kept_list;
+use requests::made::make_kept;
 use std::fmt;
 use std::rt::Env;
 
@@ -68,7 +68,8 @@ fn read_element(
 pub fn get(rt: &(impl Print + Errors + Env), d: Loaded<'_>, image: &[u8]) -> Ending {
     let element = element_typed(rt, d, image)?;
     let (physical, shown) = read_element(rt, d, image, element)?;
-    let kept = kept_list(rt, d, image)?;
+    let mut kept = Columns::zeros();
+    make_kept(rt, d, image, &mut kept)?;
     print_line(rt, d, image, &kept, element)?;
     if let Shown::Real(_) = shown {
         println!(rt; "rounded\t{}", Rounded(physical))?;

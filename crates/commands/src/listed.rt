@@ -1,11 +1,12 @@
 // The command `list`: the whole listing of an image.
 use console::ending::Ending;
-use console::kept::Loaded;
+use console::kept::{Columns, Loaded};
 use printing::printed::print_listing;
-use requests::made::kept_list;
+use requests::made::make_kept;
 
 // Lists an image.
 pub fn list(rt: &impl Print, d: Loaded<'_>, image: &[u8]) -> Ending {
-    let kept = kept_list(rt, d, image)?;
+    let mut kept = Columns::zeros();
+    make_kept(rt, d, image, &mut kept)?;
     print_listing(rt, d, image, &kept)
 }

@@ -8,7 +8,7 @@ use files::replace::{Edits, keep};
 use look::check::group_of;
 use printing::printed::print_afresh;
 use requests::limits::refused_write;
-use requests::made::kept_list;
+use requests::made::make_kept;
 use requests::requested::{Way, stop_at, way_of, write_one};
 
 // Writes to the kept list and to the image, replaces the image's file, and writes the lines that were worked out afresh.
@@ -35,6 +35,7 @@ pub fn set(rt: &(impl Print + Edits), d: Loaded<'_>, image: &mut [u8]) -> Ending
     let word = word_at(rt, WAY);
     let value = word_at(rt, VALUE);
     let way = way_of(word.bytes()).map_err(|wrong| stop_at(rt, wrong))?;
-    let mut kept = kept_list(rt, d, image)?;
+    let mut kept = Columns::zeros();
+    make_kept(rt, d, image, &mut kept)?;
     set_kept(rt, d, image, &mut kept, element, way, value.bytes())
 }

@@ -48,7 +48,7 @@ impl Errors for HostRuntime {
 }
 
 // Whether all that was said has been written, and standard output still takes words.
-fn heard(rt: &impl Print, said: Ending) -> Ending {
+pub fn heard(rt: &impl Print, said: Ending) -> Ending {
     if let Err(Stop::Lost(_)) = said {
         return said;
     }

@@ -1,11 +1,11 @@
 // The program's sizes: "The program takes 32 KiB of description and 16 KiB of image."
 
 // The most bytes of a description and of a request file, and of an image; a buffer has one byte more, to tell a longer file.
-const TEXT_BYTES: usize = 32768;
+pub const TEXT_BYTES: usize = 32768;
 
 pub const TEXT_ROOM: usize = TEXT_BYTES + 1;
 
-const IMAGE_BYTES: usize = 16384;
+pub const IMAGE_BYTES: usize = 16384;
 
 pub const IMAGE_ROOM: usize = IMAGE_BYTES + 1;
 

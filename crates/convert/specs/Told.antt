@@ -11,9 +11,13 @@ use Rattle.convert.specs.declared.asked.RawRefusal.TheVariants as raw
 use Rattle.convert.specs.Fraction.{Value, none, number, text}
 use Rattle.convert.specs.Shown.{Display, real, words, nothing}
 
+-- "10: b·f = c·e, or one of the four above 10^9"
+abbrev pub no_conversion_number : NoConversion → ℕ
+no_conversion_number e = 10
+
 abbrev pub told_method : Result Coefficients NoConversion → Answer Coefficients
 told_method (Ok k) = given k
-told_method (Err e) = refused 10
+told_method (Err e) = refused (no_conversion_number e)
 
 -- How a line holds a value: "state (0 none, 1 number, 2 text), and the fraction's two numbers, or the text's first byte and the one past it, ..; zeros for none".
 abbrev pub held : Value → Physical

@@ -4,7 +4,7 @@ ghost use Rattle.number.specs.Told.{scaled};
 ghost use Rattle.convert.specs.Whole.{Small, all_small};
 ghost use Rattle.convert.specs.Limit.{formed};
 ghost use Rattle.convert.specs.Method.{times_ten, same_products, sound_method, judged_method, rat_func, linear_of, identical_of};
-ghost use Rattle.convert.specs.Told.{told_method};
+ghost use Rattle.convert.specs.Told.{no_conversion_number, told_method};
 
 use crate::whole::{is_formed, times_ten};
 use cell::size::size;
@@ -13,6 +13,15 @@ use number::decimal::Decimal;
 // "10: b·f = c·e, or one of the four above 10^9"
 #[derive(Clone, Copy)]
 pub struct NoConversion;
+
+impl NoConversion {
+    // Its number in the list of refusals.
+    pub fn number(self) -> u8
+        ensures { result ≡ no_conversion_number self }
+    {
+        10
+    }
+}
 
 // "Each of the four is at most 10^9 in size."
 const MOST_COEFFICIENT: u64 = 1000000000;

@@ -56,7 +56,7 @@ fn print_physical(rt: &impl Print, p: Physical) -> io::Result<()> {
 fn shown(rt: &impl Print, answer: Result<Coefficients, NoConversion>, raw: i64) -> io::Result<()> {
     match answer {
         Ok(k) => print_physical(rt, fraction_of(k, raw)),
-        Err(NoConversion) => print_refusal(rt, 10),
+        Err(refusal) => print_refusal(rt, refusal.number()),
     }
 }
 

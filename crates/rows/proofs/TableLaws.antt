@@ -1,10 +1,9 @@
 -- The tables of numbers: each number is a field of its row, parameter or need, and past them every number is 0.
-use Prim.Native.Nat.{ℕ, zero, suc, ◌+◌}
+use Prim.Native.Nat.{ℕ, zero, suc, ◌+◌, ◌≤◌}
 use mathlib.Core.Path.{◌≡◌, refl, sym, ◌∙◌, ap}
 use mathlib.Core.List.{List, [], ◌∷◌}
 use borrow.Author.Rules.{rules}
-use lib.ListN.{length, get_or, replicate, get_or-map}
-use Rattle.std.specs.Prelude.{map}
+use lib.ListN.{length, get_or, replicate, get_or-eq_default, get_or-map}
 use Rattle.rows.specs.Row.{Row}
 use Rattle.rows.specs.Rows.{rows, needed}
 use Rattle.rows.specs.Numbered.{no_row, row_at, no_need, need_at, no_param, all_params, param_at, starts_from, first_param}
@@ -48,15 +47,11 @@ zeros zero f = refl
 zeros (suc n) zero = refl
 zeros (suc n) (suc f) = zeros n f
 
-row_fields : (n : ℕ) (rs : List Row) (i f : ℕ) → cell_in (rows_from n rs) i f ≡ get_or (row_numbers (get_or rs i no_row) (get_or (starts_from n rs) i 0)) f 0
-row_fields n [] i f = sym (zeros 10 f)
-row_fields n (r ∷ rs) zero f = refl
-row_fields n (r ∷ rs) (suc i) f = row_fields (n + length r.params) rs i f
-
-fields : {A : Type 0} (g : A → List ℕ) (d : A) (f : ℕ) → get_or (g d) f 0 ≡ 0 → (xs : List A) (i : ℕ) → cell_in (map g xs) i f ≡ get_or (g (get_or xs i d)) f 0
-fields g d f none [] i = sym none
-fields g d f none (x ∷ xs) zero = refl
-fields g d f none (x ∷ xs) (suc i) = fields g d f none xs i
+-- past a table's rows a row is empty, or of so many zeros: its numbers are 0 either way
+past-rows : (n f : ℕ) (t : List (List ℕ)) (i : ℕ) → cell_in t i f ≡ get_or (get_or t i (replicate n 0)) f 0
+past-rows n f [] i = sym (zeros n f)
+past-rows n f (r ∷ t) zero = refl
+past-rows n f (r ∷ t) (suc i) = past-rows n f t i
 
 -- the numbers of row i
 rows_are : (n : ℕ) (rs : List Row) (i : ℕ) → get_or (rows_from n rs) i (replicate 10 0) ≡ row_numbers (get_or rs i no_row) (get_or (starts_from n rs) i 0)
@@ -82,22 +77,32 @@ module _ (i f : ℕ) (r : List ℕ) where
   unfolding need_cells need_at
   need-number e = ap (λ l. get_or l f 0) (e ∙ get_or-map need_numbers needed i no_need)
 
+-- past a row's numbers every number is 0
+module _ (i f : ℕ) where
+  pub row-beside : 10 ≤ f → 0 ≡ row_cell i f
+  row-beside h = sym (get_or-eq_default (row_numbers (row_at i) (first_param i)) 0 h)
+
+  pub param-beside : 4 ≤ f → 0 ≡ param_cell i f
+  param-beside h = sym (get_or-eq_default (param_numbers (param_at i)) 0 h)
+
+  pub limit-beside : 2 ≤ f → 0 ≡ limit_cell i f
+  limit-beside h = sym (get_or-eq_default (limit_numbers (param_at i)) 0 h)
+
+  pub need-beside : 7 ≤ f → 0 ≡ need_cell i f
+  need-beside h = sym (get_or-eq_default (need_numbers (need_at i)) 0 h)
+
 -- n is what the code looked up
 module _ (i f n : ℕ) where
   pub row_cell_is : n ≡ cell_in ROWS i f → n ≡ row_cell i f
-  unfolding row_cells row_at first_param
-  row_cell_is e = e ∙ ap (λ t. cell_in t i f) rows-are ∙ row_fields 1 rows i f
+  row_cell_is e = e ∙ ap (λ t. cell_in t i f) rows-are ∙ past-rows 10 f row_cells i ∙ row_number i f (get_or row_cells i (replicate 10 0)) refl
 
   pub param-cell-is : n ≡ cell_in PARAMS i f → n ≡ param_cell i f
-  unfolding param_cells param_at
-  param-cell-is e = e ∙ ap (λ t. cell_in t i f) params-are ∙ fields param_numbers no_param f (zeros 4 f) all_params i
+  param-cell-is e = e ∙ ap (λ t. cell_in t i f) params-are ∙ past-rows 4 f param_cells i ∙ param-number i f (get_or param_cells i (replicate 4 0)) refl
 
   pub limit-cell-is : n ≡ cell_in LIMITS i f → n ≡ limit_cell i f
-  unfolding limit_cells param_at
-  limit-cell-is e = e ∙ ap (λ t. cell_in t i f) limits-are ∙ fields limit_numbers no_param f (zeros 2 f) all_params i
+  limit-cell-is e = e ∙ ap (λ t. cell_in t i f) limits-are ∙ past-rows 2 f limit_cells i ∙ limit-number i f (get_or limit_cells i (replicate 2 0)) refl
 
   pub need-cell-is : n ≡ cell_in NEEDS i f → n ≡ need_cell i f
-  unfolding need_cells need_at
-  need-cell-is e = e ∙ ap (λ t. cell_in t i f) needs-are ∙ fields need_numbers no_need f (zeros 7 f) needed i
+  need-cell-is e = e ∙ ap (λ t. cell_in t i f) needs-are ∙ past-rows 7 f need_cells i ∙ need-number i f (get_or need_cells i (replicate 7 0)) refl
 
 pub ruleset tables = (row_cell_is, param-cell-is, limit-cell-is, need-cell-is, rules)

@@ -9,7 +9,7 @@ pub fn range(width: usize) -> u64
     requires { width ≤ 4 }
     ensures { result ≡ 256 ^ width }
 {
-    256u64.pow(width as u32)
+    1u64 << (8 * width)
 }
 
 // The raw number that a stored number is.

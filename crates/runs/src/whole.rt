@@ -9,7 +9,7 @@ use number::digits::{NoForm, digit_of};
 // The most hex digits.
 const MOST_HEX: usize = 8;
 
-// The whole number that digits of a base write, at most most.
+// The whole number that digits of a base write, at most most. Most is divided once, so that no digit is read with a division.
 fn whole_from(s: &[u8], base: u8, most: u64) -> Result<u64, NoForm>
     requires { (0 < base) × (base ≤ 16) }
     ensures { told_whole result ≡ whole_from base most s.now }
@@ -17,17 +17,18 @@ fn whole_from(s: &[u8], base: u8, most: u64) -> Result<u64, NoForm>
     if s.is_empty() {
         return Err(NoForm);
     }
+    let radix = base as u64;
+    let (tens, ones) = (most / radix, most % radix);
     let mut n: u64 = 0;
     for &b in s {
         let d = digit_of(b);
         if base <= d {
             return Err(NoForm);
         }
-        let tens = n.checked_mul(base as u64).ok_or(NoForm)?;
-        n = tens.checked_add(d as u64).ok_or(NoForm)?;
-        if most < n {
+        if (tens < n) | ((tens == n) & (ones < d as u64)) {
             return Err(NoForm);
         }
+        n = n * radix + d as u64;
     }
     Ok(n)
 }

@@ -2,6 +2,7 @@ pub mod Walks
 pub mod ByteLaws
 pub mod Within
 pub mod LikeLaws
+pub mod InnerLaws
 pub mod BlankLaws
 pub mod TokenLaws
 pub mod Pieces

@@ -1,8 +1,8 @@
 -- Names, strings, runs and tokens, by the branches that the code takes.
 use Prim.Native.Nat.{ℕ, ◌+◌, ◌-◌, ◌≤◌, ◌<◌, max}
-use mathlib.Core.Path.{◌≡◌, ◌∙◌}
+use mathlib.Core.Path.{◌≡◌, ◌∙◌, sym}
 use mathlib.Core.List.{List}
-use mathlib.Core.Bool.{true, false}
+use mathlib.Core.Bool.{true, false, not, ◌&&◌}
 use native.Mathlib.Omega.{arith}
 use borrow.Author.Rules.{rules}
 use borrow.Author.Tests.{eq-eqb, ne_eqb, le-leb, lt-leb}
@@ -13,7 +13,9 @@ use Rattle.text.specs.Blank.{token_ends}
 use Rattle.text.specs.Token.{name_step, name_end, name_at, quote_step, string_end, run_step, run_end}
 use Rattle.text.proofs.Walks.{Same, start, onto, stops, ends, ends_for}
 use Rattle.text.proofs.ByteLaws.{via}
-use Rattle.text.proofs.Within.{name-ahead}
+use lib.Dec.{eqb}
+use Rattle.text.proofs.BlankLaws.{ends-inner}
+use Rattle.text.proofs.Within.{and_left, name-ahead}
 
 abbrev pub InName : List ℕ → ℕ → ℕ → Type 0
 InName s at i = Same ℕ (length s) (name_step s) (λ k. k) at i
@@ -96,8 +98,13 @@ module _ (s : List ℕ) (at i : ℕ) (q : InRun s at i) where
     pub run_on : token_ends s i ≡ false → is_allowed (byte s i) ≡ true → InRun s at (i + 1)
     run_on t a = onto q h (rw (t, a)) (omega arith)
 
+    pub run-inner : (is_allowed (byte s i) && not (eqb (byte s i) 34) && not (eqb (byte s i) 47)) ≡ true → InRun s at (i + 1)
+    run-inner t =
+        let a : is_allowed (byte s i) ≡ true = and_left (is_allowed (byte s i)) (not (eqb (byte s i) 34)) (and_left (is_allowed (byte s i) && not (eqb (byte s i) 34)) (not (eqb (byte s i) 47)) t) in
+        run_on (sym (ends-inner s i h t)) a
+
     pub run-bad : token_ends s i ≡ false → is_allowed (byte s i) ≡ false → refused 1 at ≡ run_end s at
     unfolding run_end
     run-bad t a = stops q h (rw (t, a))
 
-pub ruleset runs = (start, run-last, run-found, run_on, run-bad, via, rules)
+pub ruleset runs = (start, run-last, run-found, run_on, run-inner, run-bad, via, rules)

@@ -1,5 +1,5 @@
 // Bytes of a text: single ones, two side by side, and a part that spells a word.
-ghost use Rattle.std.specs.Prelude.{◌≡◌, ◌&&◌, ◌||◌, not, ◌+◌, ◌-◌, ◌<◌, ◌^◌, eqb, leb};
+ghost use Rattle.std.specs.Prelude.{◌≡◌, ◌&&◌, ◌||◌, not, ◌+◌, ◌-◌, ◌<◌, ◌^◌, eqb, leb, get_or, false};
 ghost use Rattle.text.specs.Bytes.{byte, is_blank, is_allowed, is_letter, is_digit, starts_name, in_name, starts_number, pair_at, same_for, same_part};
 
 // The byte at a place, 0 past the end.
@@ -25,11 +25,42 @@ pub fn is_allowed(b: u8) -> bool
     b.is_ascii_graphic()
 }
 
+// For each byte whether it goes on a run whatever stands after it: a printed one, but for the quote and the slash. A table, since every
+// byte of a run is looked up.
+static INNER: [bool; 256] = [
+    false, false, false, false, false, false, false, false, false, false, false, false, false,
+    false, false, false, false, false, false, false, false, false, false, false, false, false,
+    false, false, false, false, false, false, false, true, false, true, true, true, true, true,
+    true, true, true, true, true, true, true, false, true, true, true, true, true, true, true,
+    true, true, true, true, true, true, true, true, true, true, true, true, true, true, true, true,
+    true, true, true, true, true, true, true, true, true, true, true, true, true, true, true, true,
+    true, true, true, true, true, true, true, true, true, true, true, true, true, true, true, true,
+    true, true, true, true, true, true, true, true, true, true, true, true, true, true, true, true,
+    true, true, true, true, true, true, true, true, false, false, false, false, false, false,
+    false, false, false, false, false, false, false, false, false, false, false, false, false,
+    false, false, false, false, false, false, false, false, false, false, false, false, false,
+    false, false, false, false, false, false, false, false, false, false, false, false, false,
+    false, false, false, false, false, false, false, false, false, false, false, false, false,
+    false, false, false, false, false, false, false, false, false, false, false, false, false,
+    false, false, false, false, false, false, false, false, false, false, false, false, false,
+    false, false, false, false, false, false, false, false, false, false, false, false, false,
+    false, false, false, false, false, false, false, false, false, false, false, false, false,
+    false, false, false, false, false, false, false, false, false, false, false, false, false,
+    false, false, false, false, false, false,
+];
+
+// What a table says of a byte; false where it says nothing.
+fn holds(table: &[bool], b: u8) -> bool
+    ensures { result ≡ get_or table.now b false }
+{
+    table.get(b as usize).copied().unwrap_or(false)
+}
+
 // Whether a byte goes on a run whatever stands after it.
 pub fn is_inner(b: u8) -> bool
     ensures { result ≡ (is_allowed b && not (eqb b 34) && not (eqb b 47)) }
 {
-    is_allowed(b) && b != b'"' && b != b'/'
+    holds(&INNER, b)
 }
 
 // Whether a byte is a letter.

@@ -4,7 +4,7 @@ ghost use Rattle.text.specs.Answer.{reached, told};
 ghost use Rattle.text.specs.Token.{name_end, name_at, string_end, string_at, run_end, number_at, is_begin, is_end, mark_at, token_at, next_token};
 
 use crate::blank::token_ends;
-use crate::bytes::{in_name, is_allowed, pair_at, same_part, starts_name, starts_number};
+use crate::bytes::{in_name, is_allowed, is_inner, pair_at, same_part, starts_name, starts_number};
 use crate::cursor::{Cursor, Refusal, Token};
 
 // The most bytes that a name has.
@@ -94,6 +94,9 @@ impl Cursor {
     {
         let at = self.at;
         for i in at..s.len() {
+            if is_inner(s[i]) {
+                continue;
+            }
             if token_ends(s, i) {
                 return Ok(Cursor { at: i });
             }

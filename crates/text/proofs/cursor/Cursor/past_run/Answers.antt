@@ -15,3 +15,6 @@ loop-i-preserved c = search runs
 
 pub returns : goal.returns
 returns c = search runs
+
+pub loop-i-preserved-then-is_inner : goal.loop-i-preserved-then-is_inner
+loop-i-preserved-then-is_inner c = search runs

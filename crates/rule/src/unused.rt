@@ -4,20 +4,11 @@ ghost use Rattle.tables.specs.Form.{tables_in};
 ghost use Rattle.number.specs.Below.{all_below};
 ghost use Rattle.tables.specs.Rule.{count_fits, unused_zero, form_rule};
 
-use crate::below::all_below;
 use records::Section;
-use tables::form::{count_of, section_of, slot_of};
+use tables::form::{count_of, section_of};
 
 // How many sections there are.
 const SECTIONS: u8 = 6;
-
-// Whether so many numbers of record i of section j, from number k on, are zero.
-pub fn has_zeros(t: &[u64], j: u8, i: u16, from: u8, many: u8) -> bool
-    ensures { result ≡ all_below many (λ (k : ℕ). eqb ((tables_in t.now).slots j i (k + from)) 0) }
-{
-    let first = from as u16;
-    all_below(many as u16, |k| slot_of(t, j, i, k + first) == 0)
-}
 
 // Whether so many cells from a place on are zero; past the end there is none. All bits are gathered, with no test of each cell,
 // by the cells' places, of which the clause speaks.
@@ -31,6 +22,19 @@ fn are_zero(t: &[u64], from: usize, many: usize) -> bool
         bits |= t[from + k];
     }
     bits == 0
+}
+
+// Whether so many numbers of record i of section j, from number k on, are zero; past a record's numbers and the records there is none.
+pub fn has_zeros(t: &[u64], j: u8, i: u16, from: u8, many: u8) -> bool
+    ensures { result ≡ all_below many (λ (k : ℕ). eqb ((tables_in t.now).slots j i (k + from)) 0) }
+{
+    let c = section_of(j);
+    if c.most <= i {
+        return true;
+    }
+    let there = c.width.saturating_sub(from).min(many);
+    let record = (c.base as usize) + (1 + (c.width as usize) * (i as usize));
+    are_zero(t, record + (from as usize), there as usize)
 }
 
 // Whether section j counts no more records than it may have.

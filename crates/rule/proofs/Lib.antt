@@ -1,0 +1,2 @@
+-- Laws that the functions' proofs go by.
+pub mod Zeros

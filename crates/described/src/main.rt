@@ -27,12 +27,11 @@ fn print_accepted(rt: &impl Print, t: &[u64]) -> io::Result<()> {
     )
 }
 
-// Reads description n and writes its line.
-fn print_described(rt: &impl Print, x: &[u8], n: usize) -> io::Result<()> {
-    let mut t = [0u64; CELLS];
+// Reads description n into lent cells, whatever they hold, and writes its line.
+fn print_described(rt: &impl Print, x: &[u8], n: usize, t: &mut [u64]) -> io::Result<()> {
     rt.print(n)?;
-    match read(x, &mut t) {
-        Ok(()) => print_accepted(rt, &t)?,
+    match read(x, t) {
+        Ok(()) => print_accepted(rt, t)?,
         Err(r) => print!(rt; " refused {} at {}", r.no, r.place)?,
     }
     println!(rt)
@@ -40,13 +39,14 @@ fn print_described(rt: &impl Print, x: &[u8], n: usize) -> io::Result<()> {
 
 // Writes the lines of all descriptions.
 fn print_all(rt: &impl Print, s: &[u8]) -> io::Result<()> {
+    let mut t = [0u64; CELLS];
     let mut rest = s;
     for n in 1..usize::MAX {
         if rest.is_empty() {
             break;
         }
         let (part, after) = split_part(rest).unwrap_or((rest, b""));
-        print_described(rt, part, n)?;
+        print_described(rt, part, n, &mut t)?;
         rest = after;
     }
     Ok(())

@@ -26,6 +26,7 @@ pub fn exponent_of(s: &[u8]) -> Result<Exponent, NoForm>
 {
     let down = is_minus(s);
     let by = match &s[sign_len(s)..] {
+        [] => return Err(NoForm),
         [a] => decimal_digit(*a)?,
         [a, b] => decimal_digit(*a)? * 10 + decimal_digit(*b)?,
         _ => return Err(NoForm),

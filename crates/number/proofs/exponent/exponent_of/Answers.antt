@@ -28,11 +28,11 @@ pub overflow_add-by : goal.overflow_add-by
 overflow_add-by c =
     two-fit _ _ (digit-small _ _ c.decimal_digit-in-len2.ensures _ c.in_ok-decimal_digit-in-len2.was) (digit-small _ _ c.decimal_digit-in-len2-2.ensures _ c.in_ok-by-in-len2.was)
 
-pub returns-in_default : goal.returns-in_default
-returns-in_default c = (exp-none _ _ _ c.sign_len.ensures.0 c.is_minus-down.ensures (omega arith), omega arith)
+pub returns-in-empty : goal.returns-in-empty
+returns-in-empty c = (exp-none _ _ _ c.sign_len.ensures.0 c.is_minus-down.ensures (omega arith), omega arith)
 
-pub returns-in_default-2 : goal.returns-in_default-2
-returns-in_default-2 c = (exp-long _ _ _ c.sign_len.ensures.0 c.is_minus-down.ensures (omega arith), omega arith)
+pub returns-in_default : goal.returns-in_default
+returns-in_default c = (exp-long _ _ _ c.sign_len.ensures.0 c.is_minus-down.ensures (omega arith), omega arith)
 
 pub returns-in_ok-by-in-len1 : goal.returns-in_ok-by-in-len1
 returns-in_ok-by-in-len1 c =

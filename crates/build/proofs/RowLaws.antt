@@ -81,21 +81,22 @@ module _ (t : List ℕ) (j i k : ℕ) (vs : List ℕ) where
   unfolding puts_at
   putting-start = record { long = refl; is = refl }
 
-  putting-next : (n : ℕ) (u w : List ℕ) → Putting t j i k vs n u → n < length vs → w ≡ put_in u (section_in table_sections j) i (k + n) (get_or vs n 0) → Putting t j i k vs (n + 1) w
+  pub putting-on : (n : ℕ) (u w : List ℕ) → Putting t j i k vs n u → n < length vs → w ≡ put_in u (section_in table_sections j) i (k + n) (get_or vs n 0) → Putting t j i k vs (n + 1) w
   unfolding puts_at
-  putting-next n u w z h q =
+  putting-on n u w z h q =
       let l : length (take n vs) ≡ n = length-take-le n vs (omega arith) in
       let e : take (n + 1) vs ≡ take n vs ++ (get_or vs n 0 ∷ []) = rw (add-one n) (take-suc vs n 0 h) in
       let a : puts_at t j i k (take (n + 1) vs) ≡ put_in (puts_at t j i k (take n vs)) (section_in table_sections j) i (k + n) (get_or vs n 0) = rw (e, puts-on t j i k (take n vs) (get_or vs n 0 ∷ []), l) in
       record { long = ap length q ∙ length-put u (section_in table_sections j) i (k + n) (get_or vs n 0) ∙ z.long; is = q ∙ rw z.is (sym a) }
 
-  pub putting-on : (n m : ℕ) (u w : List ℕ) → Putting t j i k vs n u → n < length vs → m ≡ min (k + n) 65535 → w ≡ put_in u (section_in table_sections j) i m (get_or vs n 0) → Putting t j i k vs (n + 1) w
-  putting-on n m u w z h e q = putting-next n u w z h (q ∙ put-past u j i (k + n) m (get_or vs n 0) e)
+  -- m is the slot, or one past those of every record
+  pub putting-past : (n m : ℕ) (u w : List ℕ) → Putting t j i k vs n u → n < length vs → m ≡ min (k + n) 65535 → w ≡ put_in u (section_in table_sections j) i m (get_or vs n 0) → Putting t j i k vs (n + 1) w
+  putting-past n m u w z h e q = putting-on n u w z h (q ∙ put-past u j i (k + n) m (get_or vs n 0) e)
 
   pub putting-end : (n : ℕ) (u : List ℕ) → Putting t j i k vs n u → length vs ≤ n → u ≡ puts_at t j i k vs
   putting-end n u z h = z.is ∙ ap (puts_at t j i k) (take_all n vs h)
 
-pub ruleset puttings = (putting-start, putting-on, putting-end, rules)
+pub ruleset puttings = (putting-start, putting-on, putting-past, putting-end, rules)
 
 -- a record is opened and its numbers are put
 pub row_is : (j i : ℕ) (vs u u₁ u₂ : List ℕ) → i ≡ count_in u (section_in table_sections j) → u₁ ≡ opened u j → u₂ ≡ puts_at u₁ j i 0 vs → u₂ ≡ row_in u j vs

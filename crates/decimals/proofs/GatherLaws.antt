@@ -93,16 +93,24 @@ module _ (s : List ℕ) (at : ℕ) where
           few = q.few;
         }
 
-    pub gather-end : (m : ℕ) → (at ≤ length s → i ≤ length s) → length s ≤ i → m ≡ max at (length s) → KeptDigits s at n (record { end = m; part = p })
-    gather-end m near h e = rw (here (leb at (length s)) refl) (gather-ends (lead-end s i h))
+    pub gather-end : i ≤ length s → length s ≤ i → KeptDigits s at n (record { end = length s; part = p })
+    gather-end g h = let e : i ≡ length s = omega arith in rw (← e) (gather-ends (lead-end s i h))
+
+    -- at may stand past the end
+    pub gather-past : (m : ℕ) → (at ≤ length s → i ≤ length s) → length s ≤ i → m ≡ max at (length s) → KeptDigits s at n (record { end = m; part = p })
+    gather-past m near h e = by-place (leb at (length s)) refl
       where
-        here : (b : Bool) → leb at (length s) ≡ b → m ≡ i
-        here true t = omega (arith, e, h, leb-true at (length s) t, near (leb-true at (length s) t))
-        here false t =
+        by-place : (b : Bool) → leb at (length s) ≡ b → KeptDigits s at n (record { end = m; part = p })
+        by-place true t =
+            let u : at ≤ length s = leb-true at (length s) t in
+            let d : m ≡ length s = omega (arith, e, u) in
+            rw d (gather-end (near u) h)
+        by-place false t =
             let o : length s < at = leb-false at (length s) t in
             let z : leading (left s at) ≡ [] = lead-end s at (omega (arith, o)) in
             let y : leading (left s i) ≡ [] = lead-end s i h in
-            omega (arith, e, o, q.place, ap length z, ap length y)
+            let d : m ≡ i = omega (arith, e, o, q.place, ap length z, ap length y) in
+            rw d (gather-ends y)
 
     module _ (d : ℕ) (e : d ≡ digit_of (get_or s i 0)) (h : i < length s) where
       pub gather-stop : 10 ≤ d → KeptDigits s at n (record { end = i; part = p })

@@ -1,7 +1,7 @@
 -- Each turn takes a digit more, or ends.
 use Rattle.std.proofs.Common.{arith}
 use Rattle.number.proofs.ExponentLaws.{handed}
-use Rattle.decimals.proofs.GatherLaws.{gather-end, gather-stop, gather-over, gather-on}
+use Rattle.decimals.proofs.GatherLaws.{gather-past, gather-stop, gather-over, gather-on}
 use Rattle.decimals.proofs.gather.gather.Goals as goal
 
 pub returns-then-d-ge10 : goal.returns-then-d-ge10
@@ -16,4 +16,4 @@ pub loop-i-preserved : goal.loop-i-preserved
 loop-i-preserved c = gather-on _ _ _ _ _ c.loop-i.invariant _ c.digit_of-d.ensures c.loop-i-test.true c.if-d-ge10.false _ c.in_ok-part.ensures
 
 pub returns : goal.returns
-returns c = gather-end _ _ _ _ _ c.loop-i.invariant _ (λ h. omega (arith, h)) c.loop-i-test.false c.max.ensures
+returns c = gather-past _ _ _ _ _ c.loop-i.invariant _ (λ h. omega (arith, h)) c.loop-i-test.false c.max.ensures
